@@ -38,6 +38,8 @@
 
 #include "verity.h"
 
+#include "read_hex.h"
+
 /* How the program ends. */
 enum { RIGHT = 0, DIFFERENT = 1, NOT_DONE = 2 };
 
@@ -143,19 +145,6 @@ static int open_file(const char *name, int flags) {
     if (file == -1)
         give_up(name, strerror(errno));
     return file;
-}
-
-/* Reads bytes in hexadecimal: how many. */
-static size_t read_hex(const char *what, const char *text, uint8_t *bytes, size_t room) {
-    size_t length = 0;
-
-    for (; *text != 0; text += 2) {
-        char digits[3] = {text[0], text[1], 0};
-        if (length == room || strspn(digits, "0123456789abcdefABCDEF") != 2)
-            give_up(what, "not bytes in hexadecimal, or too many");
-        bytes[length++] = (uint8_t)strtoul(digits, NULL, 16);
-    }
-    return length;
 }
 
 /* After how many data blocks a hash block closes: the last one below it, or the last of all. */
@@ -295,8 +284,6 @@ static void print_hex(FILE *file, const uint8_t *bytes, size_t length) {
 
 static int format(size_t threads, const char *name, const char *salt, const char *uuid) {
     uint8_t root[VERITY_MAX_DIGEST_SIZE], superblock[512] = {0};
-    char digits[37];
-    size_t count = 0;
     off_t length = lseek(data_file, 0, SEEK_END);
 
     if (length == -1)
@@ -309,12 +296,8 @@ static int format(size_t threads, const char *name, const char *salt, const char
                                     .hash_block_size = 4096,
                                     .data_blocks = (uint64_t)length / 4096};
     params.salt_size =
-        strcmp(salt, "-") == 0 ? 0 : (uint32_t)read_hex("SALT", salt, params.salt, sizeof params.salt);
-    for (; *uuid != 0 && count < sizeof digits - 1; uuid++)
-        if (*uuid != '-')
-            digits[count++] = *uuid;
-    digits[count] = 0;
-    if (read_hex("UUID", digits, params.uuid, sizeof params.uuid) != sizeof params.uuid)
+        strcmp(salt, "-") == 0 ? 0 : (uint32_t)read_hex("SALT", salt, "", params.salt, sizeof params.salt);
+    if (read_hex("UUID", uuid, "-", params.uuid, sizeof params.uuid) != sizeof params.uuid)
         give_up("UUID", "not 16 bytes");
     write_hash(0, superblock, sizeof superblock); /* an older one would stand for a tree that is going */
     sync_hash();
@@ -341,7 +324,7 @@ static int is_before(const struct difference *one, const struct difference *othe
 
 static int verify(size_t threads, const char *text) {
     uint8_t root[VERITY_MAX_DIGEST_SIZE], trusted[VERITY_MAX_DIGEST_SIZE], superblock[512];
-    size_t length = read_hex("ROOT", text, trusted, sizeof trusted);
+    size_t length = read_hex("ROOT", text, "", trusted, sizeof trusted);
     struct difference first = {0};
 
     if (read_file(hash_file, "HASH", 0, superblock, sizeof superblock) < sizeof superblock)

@@ -18,23 +18,7 @@
  */
 #include "parts.h"
 
-/* Reads bytes in hexadecimal, between which may be dashes: how many. */
-static size_t read_hex(const char *what, const char *text, uint8_t *bytes, size_t room) {
-    size_t length = 0;
-
-    while (*text != 0) {
-        char digits[3] = {text[0], text[1], 0};
-        if (text[0] == '-') {
-            text++;
-            continue;
-        }
-        if (length == room || strspn(digits, "0123456789abcdefABCDEF") != 2)
-            give_up(what, "not bytes in hexadecimal, or too many");
-        bytes[length++] = (uint8_t)strtoul(digits, NULL, 16);
-        text += 2;
-    }
-    return length;
-}
+#include "../read_hex.h"
 
 /* Makes HASH, or clears an older superblock, which would stand for a tree that is going. */
 static void begin_hash(int data, const char *name) {
@@ -67,8 +51,8 @@ static void plan(char **words) {
     if (length == -1)
         give_up(words[2], strerror(errno));
     params.data_blocks = (uint64_t)length / params.data_block_size;
-    params.salt_size = (uint32_t)read_hex("SALT", words[6], params.salt, sizeof params.salt);
-    if (read_hex("UUID", words[7], params.uuid, sizeof params.uuid) != sizeof params.uuid)
+    params.salt_size = (uint32_t)read_hex("SALT", words[6], "-", params.salt, sizeof params.salt);
+    if (read_hex("UUID", words[7], "-", params.uuid, sizeof params.uuid) != sizeof params.uuid)
         give_up("UUID", "not 16 bytes");
     check_status("verity_level_count", verity_level_count(&params, &level));
     for (;; level--) {

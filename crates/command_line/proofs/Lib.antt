@@ -3,3 +3,4 @@ pub mod Chains
 pub mod Named
 pub mod Causes
 pub mod WordLists
+pub mod Numerals

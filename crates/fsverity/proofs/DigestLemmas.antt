@@ -1,16 +1,14 @@
 -- What the answer of a pass over the data says of a file.
-use Rattle.std.proofs.Common.{◌≡◌, ℕ, ◌+◌, ◌*◌, ◌/◌, ◌<◌, ◌≤◌, Bool, true, false, List, [], length, replicate, sym}
+use Rattle.std.proofs.Common.{◌≡◌, ℕ, ◌+◌, ◌*◌, ◌/◌, ◌<◌, ◌≤◌, List, [], length, sym}
 use Rattle.std.proofs.Common.{arith}
-use Rattle.std.specs.Prelude.{◌==◌, min, if◌then◌else◌}
+use Rattle.std.specs.Prelude.{min}
 use Rattle.std.proofs.Math.Nat.{div-eq_of_lt-le}
-use Rattle.std.proofs.lemmas.List.{length-replicate}
 use Rattle.verity_io.specs.Reading.{HasRead}
-use Rattle.verity_tree.specs.Levels.{data_blocks, root, root_of_file}
+use Rattle.verity_tree.specs.Levels.{data_blocks}
 use Rattle.verity_tree.specs.Reading.{EndsWithin, FailsWithin}
 use Rattle.verity_tree.specs.TreeWriting.{tree_on_device}
 use Rattle.verity_plan.specs.Plans.{PlanFields, plan_of_file}
-use Rattle.verity_hash.proofs.HashLemmas.{length-salted_hash}
-use Rattle.verity_plan.specs.Settings.{TreeSettingsFields, digest_len, hash}
+use Rattle.verity_plan.specs.Settings.{TreeSettingsFields}
 use Rattle.fsverity.specs.Runs.FileDigest.{with_tree}
 
 -- a source that ended within block i holds so many blocks, and not all that is wanted
@@ -28,25 +26,7 @@ pub fails_within : (p : PlanFields) (i : ℕ) (before after : List ℕ) → Fail
     × HasRead count before after
 fails_within p i before after fails = (fails.count, omega (arith, fails.from, fails.to), fails.to, fails.read)
 
--- a file that isn't empty has the root hash of its tree, and its device holds the tree
-pub root_of_some : (s : TreeSettingsFields) (size : ℕ) (bytes : List ℕ) → 0 < size
-    → root s (data_blocks (plan_of_file s size) bytes) ≡ root_of_file s size bytes
-root_of_some s size bytes some = grind arith
-
+-- the device of a file that isn't empty holds its tree
 pub tree_of_some : (s : TreeSettingsFields) (size : ℕ) (bytes device : List ℕ) → 0 < size
     → tree_on_device (plan_of_file s size) (data_blocks (plan_of_file s size) bytes) device ≡ with_tree s size bytes device
 tree_of_some s size bytes device some = grind arith
-
--- a root hash is as long as a digest, and so is that of an empty file
-length-root : (s : TreeSettingsFields) (blocks : List (List ℕ)) → length (root s blocks) ≡ digest_len s
-unfolding root hash
-length-root s blocks = length-salted_hash s.algorithm s.rule s.salt _
-
-length-root_or_zeros : (s : TreeSettingsFields) (empty : Bool) (root : List ℕ) → length root ≡ digest_len s
-    → length (if empty then replicate (digest_len s) 0 else root) ≡ digest_len s
-length-root_or_zeros s true root long = length-replicate (digest_len s) 0
-length-root_or_zeros s false root long = long
-
-pub length-root_of_file : (s : TreeSettingsFields) (size : ℕ) (bytes : List ℕ)
-    → length (root_of_file s size bytes) ≡ digest_len s
-length-root_of_file s size bytes = length-root_or_zeros s (size == 0) _ (length-root s _)

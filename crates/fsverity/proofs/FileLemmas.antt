@@ -19,8 +19,8 @@ use Rattle.verity_tree.specs.Collisions.{TreesCollide}
 use Rattle.verity_tree.specs.Levels.{cut, data_blocks, root, root_of_file}
 use Rattle.verity_tree.proofs.BindingLemmas.{bytes-bound}
 use Rattle.verity_tree.proofs.PathSteps.{bytes_eq-false}
+use Rattle.verity_tree.proofs.RootLemmas.{length-root_of_file, root_of_some}
 use Rattle.fsverity.specs.Runs.FileCollisions.{FilesCollide, blocks_of_file, descriptor_of_file}
-use Rattle.fsverity.proofs.DigestLemmas.{length-root_of_file, root_of_some}
 
 -- a file without bytes is empty
 same-empty : (x y : List ℕ) → length x ≡ 0 → length y ≡ 0 → x ≡ y

@@ -14,11 +14,11 @@ const MIB: usize = 1 << 20;
 /// A reader that never ends. Each read gives at most 2 MiB, and leaves the buffer as it is; the fourth one is
 /// interrupted.
 #[derive(Drop)]
-struct Pieces {
+struct ShortReads {
     reads: u64,
 }
 
-impl Read for Pieces {
+impl Read for ShortReads {
     fn read(&mut self, buf: &mut [u8]) -> io::Result<usize> {
         self.reads = self.reads.saturating_add(1);
         if self.reads == 4 {
@@ -31,7 +31,7 @@ impl Read for Pieces {
 /// Reads this many times from a reader of 20 MiB, with a buffer of 6 MiB.
 fn read<R: ProgressRuntime>(alloc: Global, runtime: &R, count: usize) -> io::Result<()> {
     let progress = ShownProgress::new(runtime);
-    let mut reader = ProgressReader::new(Pieces { reads: 0 }, 20 << 20, &progress);
+    let mut reader = ProgressReader::new(ShortReads { reads: 0 }, 20 << 20, &progress);
     let mut buffer = vec![in alloc; 0u8; 6 * MIB]?;
     for _ in 0..count {
         // An interrupted read is no progress.

@@ -2,7 +2,13 @@
 use std::io;
 use std::io::{ErrorKind, Read, Seek, SeekFrom, Write};
 
-/// A file with a hole at its start: nothing below `first` can be read or written. A call gives or takes `piece` bytes
+/// An offset that is too large for a u32.
+pub const FAR: u64 = 5_000_000_000;
+
+/// How often a call of an interrupted file fails before it goes through.
+pub const INTERRUPTS: u32 = 1000;
+
+/// A file with a hole at its start: nothing below `first` can be read or written. A call gives or takes `most` bytes
 /// at most, and goes through after this many interrupts. No offset above `top` can be reached. A sync ends with
 /// `sync_error`.
 #[derive(Drop)]
@@ -12,20 +18,20 @@ pub struct Sparse {
     offset: u64,
     pub top: u64,
     pub sync_error: Option<ErrorKind>,
-    piece: usize,
+    most: usize,
     interrupts: u32,
     interrupted: u32,
 }
 
 impl Sparse {
-    pub fn new(first: u64, bytes: Vec<u8>, piece: usize, interrupts: u32) -> Self {
+    pub fn new(first: u64, bytes: Vec<u8>, most: usize, interrupts: u32) -> Self {
         Sparse {
             first,
             bytes,
             offset: first,
             top: u64::MAX,
             sync_error: None,
-            piece,
+            most,
             interrupts,
             interrupted: 0,
         }
@@ -62,7 +68,7 @@ impl Read for Sparse {
         if at >= self.bytes.len() {
             return Ok(0);
         }
-        let count = buf.len().min(self.bytes.len() - at).min(self.piece);
+        let count = buf.len().min(self.bytes.len() - at).min(self.most);
         buf[..count].copy_from_slice(&self.bytes[at..at + count]);
         self.offset = self.offset.saturating_add(count as u64);
         Ok(count)
@@ -72,7 +78,7 @@ impl Read for Sparse {
 impl Write for Sparse {
     fn write(&mut self, buf: &[u8]) -> io::Result<usize> {
         let at = self.begin()?;
-        let count = buf.len().min(self.piece);
+        let count = buf.len().min(self.most);
         let end = at.saturating_add(count);
         if self.bytes.len() < end {
             self.bytes.resize(end, 0)?;

@@ -1,8 +1,7 @@
 -- What a read at a hash block's place gives.
 use Rattle.std.proofs.Common.{◌≡◌, ℕ, ◌+◌, ◌*◌, ◌-◌, ◌/◌, ◌^◌, ◌<◌, ◌≤◌, List, length, take, drop, arith, ap, sym, ◌∙◌}
-use Rattle.std.proofs.Common.{refl, inl, inr, length-drop}
+use Rattle.std.proofs.Common.{refl, inl, inr}
 use Rattle.std.proofs.lemmas.Bool.{cases_lt}
-use Rattle.std.proofs.lemmas.List.{length-take-le}
 use Rattle.std.proofs.Math.Nat.{mul-le-mul_right}
 use Rattle.std.specs.Fork.{slice_chunk}
 use borrow.Rule.Slice.PartMut.{put_mid}
@@ -35,14 +34,6 @@ pub run-within : (path : List ℕ) (l levels size : ℕ) → l < levels → leng
 run-within path l levels size below whole =
     let next : l + 1 ≤ levels = omega arith in
     omega (arith, whole, mul-le-mul_right size next)
-
--- and has the length of a hash block
-pub length-run : (path : List ℕ) (l size : ℕ) → l * size + size ≤ length path
-    → length (take (l * size + size - l * size) (drop (l * size) path)) ≡ size
-length-run path l size within =
-    let wide : l * size + size - l * size ≡ size = omega arith in
-    length-take-le (l * size + size - l * size) (drop (l * size) path)
-    (omega (arith, wide, length-drop (l * size) path, within)) ∙ wide
 
 -- one more level of a path is read
 pub path-more : (p : PlanFields) (i l size : ℕ) (path block device : List ℕ) → size ≡ p.settings.hash_block

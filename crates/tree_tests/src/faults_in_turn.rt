@@ -132,18 +132,18 @@ const ONE_IN_SOME: [Tried; 4] = [(usize::MAX, 1), (4095, 3), (7, 13), (1, 13)];
 
 const ONE_IN_MANY: [Tried; 4] = [(usize::MAX, 13), (4095, 53), (7, 53), (1, 131)];
 
-const LONG_PIECES: [Tried; 2] = [(usize::MAX, 1), (4095, 3)];
+const LONG_READS: [Tried; 2] = [(usize::MAX, 1), (4095, 3)];
 
-const FEW_LONG_PIECES: [Tried; 2] = [(usize::MAX, 2), (4095, 13)];
+const FEW_LONG_READS: [Tried; 2] = [(usize::MAX, 2), (4095, 13)];
 
-/// A run that goes wrong: the number of its row, how many bytes its source gives at a time, the calls that fail, and
-/// how many bytes the source has.
+/// A run that goes wrong: the number of its row, how many bytes a read of its source gives at most, the calls that fail,
+/// and how many bytes the source has.
 type Wrong = (usize, usize, (usize, usize), usize);
 
 fn first_wrong(alloc: Global, rows: &[Row], sources: &[Tried]) -> Result<Option<Wrong>, Fail> {
     for (number, row) in rows.iter().enumerate() {
-        if let Some((piece, trial)) = Sweep::new(alloc, row)?.first_wrong(alloc, sources)? {
-            return Ok(Some((number, piece, trial.failing, trial.given)));
+        if let Some((most, trial)) = Sweep::new(alloc, row)?.first_wrong(alloc, sources)? {
+            return Ok(Some((number, most, trial.failing, trial.given)));
         }
     }
     Ok(None)
@@ -158,19 +158,19 @@ fn faults_are_answered_at_each_fan_out(rt: HostRuntime) -> Result<(), Fail> {
 
 #[test]
 fn faults_are_answered_at_each_block_size(rt: HostRuntime) -> Result<(), Fail> {
-    assert_eq!(rt; first_wrong(rt.alloc(), &LARGE, &LONG_PIECES)?, None);
+    assert_eq!(rt; first_wrong(rt.alloc(), &LARGE, &LONG_READS)?, None);
     Ok(())
 }
 
 #[test]
 fn faults_are_answered_in_the_largest_window(rt: HostRuntime) -> Result<(), Fail> {
-    assert_eq!(rt; first_wrong(rt.alloc(), &LARGER, &FEW_LONG_PIECES)?, None);
+    assert_eq!(rt; first_wrong(rt.alloc(), &LARGER, &FEW_LONG_READS)?, None);
     Ok(())
 }
 
 #[test]
 fn faults_are_answered_at_the_largest_block_sizes(rt: HostRuntime) -> Result<(), Fail> {
-    assert_eq!(rt; first_wrong(rt.alloc(), &LARGEST, &LONG_PIECES)?, None);
+    assert_eq!(rt; first_wrong(rt.alloc(), &LARGEST, &LONG_READS)?, None);
     Ok(())
 }
 

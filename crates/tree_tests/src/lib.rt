@@ -29,9 +29,9 @@ mod parts;
 #[cfg(test)]
 mod paths;
 #[cfg(test)]
-mod pieces;
-#[cfg(test)]
 mod salting;
+#[cfg(test)]
+mod short_reads;
 #[cfg(test)]
 mod side_by_side;
 #[cfg(test)]

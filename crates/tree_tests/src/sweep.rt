@@ -1,6 +1,6 @@
 //! A tree that is built again and again, with a fault in each place in turn.
 use crate::cases::{Case, Row};
-use crate::pieces::Pieces;
+use crate::short_reads::ShortReads;
 use fixtures::lay;
 use std::alloc::{AllocError, Global};
 use std::test::Fail;
@@ -90,7 +90,7 @@ impl Sweep {
 
     /// Runs over data block `i`: those in which a read fails, the block's first or the one half way, and that in which
     /// the data ends within it. This many reads come before it, and it takes this many.
-    fn at_block(&self, i: usize, piece: usize, before: usize, reads: usize) -> [Trial; 3] {
+    fn at_block(&self, i: usize, most: usize, before: usize, reads: usize) -> [Trial; 3] {
         let closed = self.order.iter().filter(|closed| closed.2 <= i).count();
         let rest = self.after(i);
         let first = Trial {
@@ -103,7 +103,7 @@ impl Sweep {
         };
         let half = Trial {
             failing: (before.saturating_add(reads / 2).saturating_add(1), 0),
-            rest: rest.saturating_sub((reads / 2).saturating_mul(piece)),
+            rest: rest.saturating_sub((reads / 2).saturating_mul(most)),
             ..first
         };
         let end = Trial {
@@ -123,14 +123,14 @@ impl Sweep {
 
     /// All runs over a source: those over the data blocks tried, those in which a write fails, and the whole one.
     fn trials(&self, alloc: Global, tried: Tried) -> Result<Vec<Trial>, AllocError> {
-        let (piece, every) = tried;
+        let (most, every) = tried;
         let mut trials = Vec::new(alloc);
         let mut before = 0usize;
         for i in 0..self.blocks {
             let held = self.after(i).min(self.case.shape.data_block);
-            let reads = held.div_ceil(piece.max(1));
+            let reads = held.div_ceil(most.max(1));
             if i % every.max(1) == 0 {
-                trials.extend_from_slice(&self.at_block(i, piece, before, reads))?;
+                trials.extend_from_slice(&self.at_block(i, most, before, reads))?;
             }
             before = before.saturating_add(reads);
         }
@@ -179,7 +179,7 @@ impl Sweep {
         &self,
         alloc: Global,
         store: &mut Store,
-        piece: usize,
+        most: usize,
         trial: &Trial,
     ) -> Result<bool, AllocError> {
         if !store.fits(&self.case.plan) {
@@ -188,7 +188,7 @@ impl Sweep {
         let held = self.device_after(alloc, trial.closed)?;
         let bytes = self.case.data.get(..trial.given).unwrap_or(&[]);
         let (read, write) = (trial.failing.0 as u64, trial.failing.1 as u64);
-        let mut source = Fused::new(Pieces::new(bytes, piece), read);
+        let mut source = Fused::new(ShortReads::new(bytes, most), read);
         let mut device = Fused::new(MemoryDevice::new(Vec::new(alloc)), write);
         let result = build(&self.case.plan, store, &mut source, &mut device);
         Ok(

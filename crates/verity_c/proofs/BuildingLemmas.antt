@@ -1,19 +1,18 @@
 -- What a builder has answered is what the library for C says of it.
-use Rattle.std.proofs.Common.{◌≡◌, ◌≢◌, ◌<◌, ◌≤◌, ◌+◌, ℕ, Bool, true, false, List, [], ◌∷◌, ◌++◌, length, replicate}
+use Rattle.std.proofs.Common.{◌≡◌, ◌≢◌, ◌<◌, ◌≤◌, ◌+◌, ℕ, Bool, true, false, List, [], ◌∷◌, ◌++◌, length}
 use Rattle.std.proofs.Common.{take, Option, Some, None, Result, Ok, IfOk, if◌then◌else◌, arith, ap, inl, inr, refl}
 use Rattle.std.proofs.Common.{subst, sym, ◌∙◌}
 use Rattle.std.proofs.lemmas.Bool.Decides.{nat_tests}
-use Rattle.std.proofs.lemmas.List.{length-replicate}
 use Rattle.std.specs.Prelude.{◌==◌, MatchOption}
 use Rattle.verity_format.specs.Descriptors.{digest_of_file}
 use Rattle.verity_plan.specs.Plans.{PlanFields}
 use Rattle.verity_plan.specs.PlanCounts.{level_count_of}
 use Rattle.verity_plan.proofs.CountLemmas.{mul_le}
 use Rattle.verity_plan.specs.Settings.{TreeSettingsFields, digest_len}
-use Rattle.verity_tree.proofs.OpenBlockLemmas.{length-hash}
+use Rattle.verity_tree.proofs.RootLemmas.{length-root_of_file}
 use Rattle.verity_tree.specs.ClosingOrder.{block_index}
 use Rattle.verity_tree.specs.Feeding.{Feeds, IsFed, IsFedFile, IsHandedOut, Takes, given}
-use Rattle.verity_tree.specs.Levels.{root, root_of_file}
+use Rattle.verity_tree.specs.Levels.{root_of_file}
 use Rattle.verity_tree.specs.declared.file_builder.FileBuilder.{FileBuilder}
 use Rattle.verity_tree.specs.declared.tree_builder.Fed.{Fed}
 use Rattle.verity_tree.specs.declared.tree_builder.HashBlock.{HashBlock}
@@ -202,20 +201,6 @@ StandsLast-at params p build bytes memory last fed made is some h =
     (subst (λ (f : VerityFed). StandsLast p build bytes memory f) (sym is)
     (StandsLast-by p build bytes memory last some h))
 
--- a root hash is as long as its digests, and so is that of an empty file
-pub length-root : (s : TreeSettingsFields) (blocks : List (List ℕ)) → length (root s blocks) ≡ digest_len s
-unfolding root
-length-root s blocks = length-hash s _
-
-pub length-root_of_file : (s : TreeSettingsFields) (bytes : List ℕ)
-    → length (root_of_file s (length bytes) bytes) ≡ digest_len s
-length-root_of_file s bytes = by_test (length bytes == 0) _ (length-root s _)
-  where
-    by_test : (none : Bool) (made : List ℕ) → length made ≡ digest_len s
-        → length (if none then replicate (digest_len s) 0 else made) ≡ digest_len s
-    by_test true made long = length-replicate {A = ℕ} (digest_len s) 0
-    by_test false made long = long
-
 -- a file digest, when there is room for just it
 pub file_digest_in-ok : (made : Result TreeSettingsFields Fault) (s : TreeSettingsFields) (size : ℕ) (hash : List ℕ)
     (room : ℕ)
@@ -235,7 +220,7 @@ pub file_root-set : (params : FsverityParams) (s : TreeSettingsFields) (memory f
     → after ≡ root_of_file s (length fed) fed
 file_root-set params s memory fed answer before after made h answers room copied =
     let is : answer ≡ root_of_file s (length fed) fed = answers fed (IsFedFileTo-at params s memory fed made h) in
-    copied (ap length is ∙ length-root_of_file s fed ∙ sym room) ∙ is
+    copied (ap length is ∙ length-root_of_file s (length fed) fed ∙ sym room) ∙ is
 
 -- and its size
 pub file_size : (params : FsverityParams) (memory fed : List ℕ) → IsFedFileTo params memory fed

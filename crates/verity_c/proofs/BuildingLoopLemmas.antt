@@ -1,6 +1,6 @@
 -- Calls of verity_build_feed build the tree, and so does the loop of verity.h.
-use Rattle.std.proofs.Common.{◌≡◌, ℕ, Bool, true, false, List, [], ◌∷◌, ◌++◌, length, map, take, drop, Result, Ok, Err}
-use Rattle.std.proofs.Common.{if◌then◌else◌, arith, ap, refl, sym, subst, ◌∙◌, append_assoc, inl, inr}
+use Rattle.std.proofs.Common.{◌≡◌, ℕ, true, false, List, [], ◌∷◌, ◌++◌, length, map, take, drop, Result, Ok}
+use Rattle.std.proofs.Common.{arith, ap, refl, sym, subst, ◌∙◌, append_assoc, inl, inr}
 use Rattle.std.proofs.lemmas.Bool.Decides.{nat_tests}
 use Rattle.std.proofs.lemmas.Grind.{flat_map-append}
 use Rattle.std.proofs.lemmas.List.{append-nil, take-append-drop, take_all}
@@ -18,7 +18,7 @@ use Rattle.verity_tree.specs.Levels.{data_blocks, root}
 use Rattle.verity_tree.specs.TreeOnDevice.{HoldsTree}
 use Rattle.verity_c.proofs.BuildingLemmas.{IsFedTo-at, given-by, handed-by}
 use Rattle.verity_c.proofs.ParameterLemmas.{of_plan, plan-made}
-use Rattle.verity_c.proofs.StatusLemmas.{fault-not_done}
+use Rattle.verity_c.proofs.StatusLemmas.{room-of}
 use Rattle.verity_c.specs.Building.{HandsOut, IsFedTo, TakesPiece, builder_of, memory_length_of, with_all_fed}
 use Rattle.verity_c.specs.Building.{with_memory}
 use Rattle.verity_c.specs.BuildingLoop.{AreFedBy, BuildsTree, FedPiece, FeedingCall, FeedsPiece, FeedsPieces, IsBegun}
@@ -27,7 +27,6 @@ use Rattle.verity_c.specs.Parameters.{plan_of}
 use Rattle.verity_c.specs.Statuses.{done, status_of}
 use Rattle.verity_c.specs.declared.build.VerityBuild.{VerityBuild}
 use Rattle.verity_c.specs.declared.fault.Fault.{Fault}
-use Rattle.verity_c.specs.declared.fault.Fault.TheVariants as fault
 use Rattle.verity_c.specs.declared.parameters.VerityParams.{VerityParams}
 
 -- a call is one of the builder
@@ -114,15 +113,10 @@ last-closed params p [] last before after made fed none all =
 last-closed params p (call ∷ calls) last before after made fed none all =
     last-closed params p calls last call.after after made fed.1 none all
 
--- the memory has its length
-room-of : (made : Result PlanFields Fault) (p : PlanFields) (room : ℕ) → made ≡ Ok p
+-- a call that is done goes on with the plan, since the memory has its length
+memory-of : (made : Result PlanFields Fault) (p : PlanFields) (room : ℕ) → made ≡ Ok p
     → status_of (with_memory made room) ≡ done → with_memory made room ≡ Ok p
-room-of made p room is status = rw is (by_test (room == memory_length_of p) (rw is at status))
-  where
-    by_test : (fits : Bool) → status_of (if fits then Ok p else Err fault.Length) ≡ done
-        → (if fits then Ok p else Err fault.Length) ≡ Ok p
-    by_test true e = refl
-    by_test false e = absurd (fault-not_done fault.Length (sym e))
+memory-of made p room is status = rw is (room-of p memory_length_of room (rw is at status))
 
 -- all was fed and handed out, so there is a root hash
 ends : (p : PlanFields) (build : VerityBuild) → build.fed ≡ p.wanted → build.closed ≡ level_count_of p
@@ -156,7 +150,7 @@ calls-built params p calls begun after made begins fed all closed =
     let count : length bytes ≡ after.build.fed = is_fed.is_fed.count in
     let room : with_memory (plan_of params) (length after.memory) ≡ Ok p =
     ap (with_memory (plan_of params)) (same-room params calls begun after fed)
-    ∙ room-of (plan_of params) p (length begun.memory) made begins.status in
+    ∙ memory-of (plan_of params) p (length begun.memory) made begins.status in
     record {
       is_fed = is_fed;
       builds = builds;

@@ -21,8 +21,7 @@ use Rattle.verity_tree.specs.Parts.{AreDigests, BuildsJoinInCalls, PartInCalls, 
 use Rattle.verity_tree.specs.Parts.{JoinsCalls, blocks_under, counts_none_closed, digest_of_part, handed_out_of_join}
 use Rattle.verity_tree.specs.Parts.{join_length}
 use Rattle.verity_c.proofs.BuildingLemmas.{given-by, handed-by}
-use Rattle.verity_c.proofs.PartCallLemmas.{room-of}
-use Rattle.verity_c.proofs.StatusLemmas.{fault-not_done}
+use Rattle.verity_c.proofs.StatusLemmas.{fault-not_done, room-of}
 use Rattle.verity_c.specs.BuildingLoop.{hash_block_by}
 use Rattle.verity_c.specs.Parts.{if_room, join_builder_of, with_join_memory, with_joined, with_joined_file}
 use Rattle.verity_c.specs.PartsLoop.{AreJoinedBy, IsJoinedBy, JoinCall, JoinCalls, KeptJoin, AreCallsOfJoin}

@@ -10,7 +10,7 @@ use Rattle.verity_plan.specs.PlanCounts.{level_count_of, count_under}
 use Rattle.verity_plan.specs.Settings.{digest_len, fan}
 use Rattle.verity_plan.proofs.CountLemmas.{div_ceil-pos, mul_le}
 use Rattle.verity_plan.proofs.FanLemmas.{fan-some}
-use Rattle.verity_tree.proofs.DataBlockLemmas.{blocks-some}
+use Rattle.verity_plan.proofs.PlanLemmas.{blocks-some}
 use Rattle.verity_tree.specs.Parts.{AreDigests, IsHandedOutOfJoin, IsJoined, IsPlacedOfJoin, Joins, TakesOfJoin}
 use Rattle.verity_tree.specs.Parts.{HasLastOfJoin, counts_none_closed, join_fault, part_fault}
 use Rattle.verity_tree.specs.declared.feed_fault.FeedFault.{FeedFault}

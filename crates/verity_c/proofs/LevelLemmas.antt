@@ -6,7 +6,7 @@ use Rattle.verity_plan.specs.PlanCounts.{level_count_of}
 use Rattle.verity_plan.specs.Settings.{fan}
 use Rattle.verity_plan.proofs.FanLemmas.{fan-some}
 use Rattle.verity_plan.proofs.IndexLemmas.{HasBlock-above}
-use Rattle.verity_tree.proofs.DataBlockLemmas.{blocks-some}
+use Rattle.verity_plan.proofs.PlanLemmas.{blocks-some}
 
 -- the first block of a level is the one above data block 0
 pub HasBlock-first : (p : PlanFields) (l : ℕ) → IsPlan p → l < level_count_of p → HasBlock p l 0

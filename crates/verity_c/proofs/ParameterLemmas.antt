@@ -1,17 +1,13 @@
 -- What parameters that make settings and a plan say.
-use Rattle.std.proofs.Common.{◌≡◌, ℕ, ◌+◌, ◌*◌, ◌<◌, ◌≤◌, Bool, true, false, take, length, Option, Some, None, Result}
-use Rattle.std.proofs.Common.{Ok, Err, IfOk, if◌then◌else◌, nat_le, arith, ap, refl, sym, subst, ◌∙◌, inl, inr}
-use Rattle.std.proofs.lemmas.Bool.{cases_lt}
+use Rattle.std.proofs.Common.{◌≡◌, ℕ, ◌≤◌, Bool, true, false, take, length, Option, Some, None, Result}
+use Rattle.std.proofs.Common.{Ok, Err, IfOk, if◌then◌else◌, nat_le, arith, ap, refl, sym, subst, ◌∙◌}
 use Rattle.std.proofs.lemmas.Bool.Decides.{nat_tests}
-use Rattle.std.specs.Int.{div_ceil}
 use Rattle.std.specs.Prelude.{◌==◌, not, nat_lt}
 use Rattle.verity_hash.specs.Hashing.{digest_len_of}
 use Rattle.verity_hash.specs.declared.algorithm.Algorithm.{Algorithm}
 use Rattle.verity_hash.specs.declared.salting.SaltRule.TheVariants.{PaddedBefore}
-use Rattle.verity_plan.proofs.CountLemmas.{div_ceil-le, le-div_ceil, mul_le}
-use Rattle.verity_plan.proofs.FanLemmas.{some_data}
-use Rattle.verity_plan.proofs.PlanLemmas.{planned_is, some_wanted}
-use Rattle.verity_plan.specs.Plans.{IsPlan, PlanFields, base_of, block_count, checked_plan, has_room, multiple_of}
+use Rattle.verity_plan.proofs.PlanLemmas.{IsPlan-checked_plan, IsPlan-plan_from, planned_is}
+use Rattle.verity_plan.specs.Plans.{IsPlan, PlanFields, base_of, checked_plan, multiple_of}
 use Rattle.verity_plan.specs.Plans.{offset_unit, plan_at, plan_from, plan_of_file}
 use Rattle.verity_plan.specs.Settings.{IsValid, TreeSettingsFields, is_block_size, is_of_fsverity, least_block}
 use Rattle.verity_plan.specs.Settings.{most_salt, rule_of}
@@ -200,64 +196,13 @@ plan_by-is (Ok tree) params p made =
     let same = plan_if-is offset tree params p made in
     (ap (λ (s : TreeSettingsFields). Ok s) (sym same.0), same.1)
 
--- so many whole blocks are their number
-blocks-of_bytes : (n size : ℕ) → 0 < size → n ≡ div_ceil (n * size) size
-blocks-of_bytes n size some =
-    let most : div_ceil (n * size) size ≤ n = div_ceil-le (n * size) size n some (omega arith) in
-    elim (cases_lt (div_ceil (n * size) size) n) [
-      | inl less ↦
-          let step : div_ceil (n * size) size + 1 ≤ n = omega (arith, less) in
-          absurd (omega (
-            arith,
-            le-div_ceil (n * size) size (div_ceil (n * size) size) some (omega arith),
-            mul_le (div_ceil (n * size) size + 1) n size step,
-            some,
-          ))
-      | inr enough ↦ omega (arith, most, enough)
-    ]
-
--- a plan that is made can be carried out
-checked-planned : (asked p : PlanFields) → checked_plan asked ≡ Ok p → IsValid asked.settings
-    → asked.blocks ≡ block_count asked.settings asked.wanted → IsPlan asked
-checked-planned asked p made valid counted =
-    by_tests (asked.blocks == 0) (has_room asked) refl refl made
-  where
-    by_tests : (none room : Bool) → (asked.blocks == 0) ≡ none → has_room asked ≡ room
-        → (if none then Err NoData else (if room then Ok asked else Err TooLarge)) ≡ Ok p → IsPlan asked
-    by_tests true room some fits e = absurd cc
-    by_tests false false some fits e = absurd cc
-    by_tests false true some fits e =
-        let more : 0 < asked.blocks = grind (arith, nat_tests, some) in
-        record {
-          valid = valid;
-          some = some_wanted asked.wanted asked.settings.data_block asked.blocks counted more;
-          blocks_are = counted;
-          data_most = grind (arith, nat_tests, fits);
-          hash_most = grind (arith, nat_tests, fits);
-        }
-
-checked-plan : (asked p : PlanFields) → checked_plan asked ≡ Ok p → IsValid asked.settings
-    → asked.blocks ≡ block_count asked.settings asked.wanted → IsPlan p
-checked-plan asked p made valid counted =
-    subst (λ (q : PlanFields). IsPlan q) (sym (planned_is asked p (sym made)))
-    (checked-planned asked p made valid counted)
-
-plan_from-planned : (tree : TreeSettingsFields) (blocks : ℕ) (base : Option ℕ) (p : PlanFields) → IsValid tree
-    → plan_from tree blocks base ≡ Ok p → IsPlan p
-plan_from-planned tree blocks (Some base) p valid made =
-    checked-plan _ p made valid (blocks-of_bytes blocks tree.data_block (some_data tree valid))
-plan_from-planned tree blocks None p valid made = by_test (blocks == 0) made
-  where
-    by_test : (none : Bool) → (if none then Err NoData else Err TooLarge) ≡ Ok p → IsPlan p
-    by_test true e = absurd cc
-    by_test false e = absurd cc
-
+-- a plan that parameters make can be carried out
 plan_if-planned : (offset : Option ℕ) (tree : TreeSettingsFields) (params : VerityParams) (p : PlanFields)
     → IsValid tree
     → plan_if offset tree params ≡ Ok p → IsPlan p
 plan_if-planned None tree params p valid made = absurd cc
 plan_if-planned (Some offset) tree params p valid made =
-    plan_from-planned tree params.data_blocks (base_of offset (params.no_superblock == 0) tree.hash_block) p valid
+    IsPlan-plan_from tree params.data_blocks (base_of offset (params.no_superblock == 0) tree.hash_block) p valid
     (planned-ok (plan_at tree params.data_blocks offset (params.no_superblock == 0)) p made)
 
 plan_by-planned : (tree : Result TreeSettingsFields Fault) (params : VerityParams) (p : PlanFields)
@@ -357,7 +302,8 @@ fsverity_plan_by-made (Ok tree) params p is e =
     record {
       tree = is ∙ ap (λ (s : TreeSettingsFields). Ok s) (sym settings);
       is = same ∙ ap (λ (s : TreeSettingsFields). plan_of_file s params.size) (sym settings);
-      planned = checked-plan (plan_of_file tree params.size) p checked (file_settings-made params tree is).valid refl;
+      planned = IsPlan-checked_plan (plan_of_file tree params.size) p checked (file_settings-made params tree is).valid
+          refl;
     }
 
 pub file_plan-made : (params : FsverityParams) (p : PlanFields) → fsverity_plan_of params ≡ Ok p

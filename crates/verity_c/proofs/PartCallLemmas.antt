@@ -1,6 +1,6 @@
 -- Calls of verity_part_feed build a part of a tree. All this is said of a plan that was made.
-use Rattle.std.proofs.Common.{◌≡◌, ℕ, ◌-◌, ◌*◌, ◌≤◌, Bool, true, false, List, [], ◌∷◌, ◌++◌, length, map, Result, Ok}
-use Rattle.std.proofs.Common.{Err, if◌then◌else◌, arith, ap, refl, sym, subst, ◌∙◌, append_assoc}
+use Rattle.std.proofs.Common.{◌≡◌, ℕ, ◌-◌, ◌*◌, ◌≤◌, true, false, List, [], ◌∷◌, ◌++◌, length, map, Result, Ok}
+use Rattle.std.proofs.Common.{arith, ap, refl, sym, subst, ◌∙◌, append_assoc}
 use Rattle.std.proofs.lemmas.Bool.Decides.{nat_tests}
 use Rattle.std.proofs.lemmas.List.{append-nil, length-drop, length-take, length-take-le}
 use Rattle.std.proofs.lemmas.List.Folds.{flat_map-map}
@@ -15,7 +15,7 @@ use Rattle.verity_tree.specs.Feeding.{FeedCall, feeding_length}
 use Rattle.verity_tree.specs.Parts.{BuildsPartInCalls, FeedsPart, FeedsPartCalls, HasPart, IsFedPart, IsHandedOutOfPart}
 use Rattle.verity_tree.specs.Parts.{bytes_of_part, digest_of_part, handed_out_of_part, blocks_in_part, plan_of_part}
 use Rattle.verity_c.proofs.BuildingLemmas.{given-by, handed-by}
-use Rattle.verity_c.proofs.StatusLemmas.{fault-not_done}
+use Rattle.verity_c.proofs.StatusLemmas.{room-of}
 use Rattle.verity_c.specs.BuildingLoop.{hash_block_by}
 use Rattle.verity_c.specs.Parts.{if_room, part_builder_of, with_part_fed, with_part_memory}
 use Rattle.verity_c.specs.PartsLoop.{AreFedPartBy, IsFedPartBy, KeptPart, PartCall, PartCalls, AreCallsOfPart}
@@ -23,17 +23,6 @@ use Rattle.verity_c.specs.PartsLoop.{bytes_taken_by, feeding_calls, part_builder
 use Rattle.verity_c.specs.Statuses.{done, status_of}
 use Rattle.verity_c.specs.declared.build.VerityPart.{VerityPart}
 use Rattle.verity_c.specs.declared.fault.Fault.{Fault}
-use Rattle.verity_c.specs.declared.fault.Fault.TheVariants as fault
-
--- a memory that is taken has its length
-pub room-of : (p : PlanFields) (long : PlanFields → ℕ) (room : ℕ) → status_of (if_room (Ok p) long room) ≡ done
-    → if_room (Ok p) long room ≡ Ok p
-room-of p long room status = by_test (room == long p) status
-  where
-    by_test : (fits : Bool) → status_of (if fits then Ok p else Err fault.Length) ≡ done
-        → (if fits then Ok p else Err fault.Length) ≡ Ok p
-    by_test true e = refl
-    by_test false e = absurd (fault-not_done fault.Length (sym e))
 
 part-room : (p : PlanFields) (level number room : ℕ) → HasPart p level number
     → status_of (with_part_memory (Ok p) level number room) ≡ done → with_part_memory (Ok p) level number room ≡ Ok p

@@ -1,13 +1,14 @@
 -- Calls that build the parts of a tree, and those that join them, build the tree together: by a plan that was made, and
 -- in the end by parameters that make it.
-use Rattle.std.proofs.Common.{◌≡◌, ℕ, zero, suc, ◌+◌, ◌<◌, ◌≤◌, List, [], ◌++◌, length, Result, Ok, arith, ap, refl}
-use Rattle.std.proofs.Common.{sym, subst, ◌∙◌}
-use Rattle.std.specs.List.{flat_map, range_with_len, Contains}
+use Rattle.std.proofs.Common.{◌≡◌, ℕ, ◌<◌, ◌≤◌, List, [], length, Result, Ok, arith, refl}
+use Rattle.std.proofs.Common.{sym, subst}
+use Rattle.std.specs.List.{Contains}
 use Rattle.std.specs.Prelude.{◌↔◌}
 use Rattle.verity_plan.specs.Plans.{IsPlan, PlanFields}
 use Rattle.verity_plan.specs.PlanCounts.{count_under}
 use Rattle.verity_tree.proofs.PartCalls.{parts-build}
 use Rattle.verity_tree.proofs.StandingLemmas.{put-holds}
+use Rattle.verity_tree.proofs.JoinedLists.{flat_map-same}
 use Rattle.verity_tree.specs.Feeding.{FeedCall}
 use Rattle.verity_tree.specs.Levels.{data_blocks, root}
 use Rattle.verity_tree.specs.Parts.{BuildsFromParts, PartInCalls, bytes_of_part, digest_of_part}
@@ -21,16 +22,6 @@ use Rattle.verity_c.specs.PartsLoop.{calls_of_all, digests_of, join_in_calls, pa
 use Rattle.verity_c.specs.declared.fault.Fault.{Fault}
 use Rattle.verity_c.specs.declared.parameters.FsverityParams.{FsverityParams}
 use Rattle.verity_c.specs.declared.parameters.VerityParams.{VerityParams}
-
--- the same lists for each number, the same joined
-flat_map-same : (f g : ℕ → List ℕ) (from count : ℕ)
-    → ((k : ℕ) → from ≤ k → k < from + count → f k ≡ g k)
-    → flat_map f (range_with_len from count) ≡ flat_map g (range_with_len from count)
-flat_map-same f g from zero same = refl
-flat_map-same f g from (suc count) same =
-    ap (λ (xs : List ℕ). xs ++ flat_map f (range_with_len (from + 1) count)) (same from (omega arith) (omega arith))
-    ∙ ap (λ (xs : List ℕ). g from ++ xs) (flat_map-same f g (from + 1) count
-    (λ k least most. same k (omega (arith, least)) (omega (arith, most))))
 
 -- a tree that is built by calls for each part and for the join
 pub parts-built : (p : PlanFields) (level : ℕ) (bytes : List ℕ) (parts : ℕ → PartCalls) (join : JoinCalls) → IsPlan p

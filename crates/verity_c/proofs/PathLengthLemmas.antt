@@ -3,25 +3,16 @@ use Rattle.std.proofs.Common.{◌≡◌, ℕ, ◌+◌, ◌*◌, ◌/◌, ◌^◌
 use Rattle.std.proofs.lemmas.Bool.{cases_lt}
 use Rattle.std.proofs.Math.Nat.{div-mul-le_self, mul-le-mul, mul-le-mul_left, pow-le-pow_left, pow-le-pow_right}
 use Rattle.std.specs.Int.{is_power_of_two}
-use Rattle.verity_plan.proofs.CountLemmas.{IsLevelCount-level_count, mul_le}
+use Rattle.verity_plan.proofs.CountLemmas.{mul_le}
 use Rattle.verity_plan.proofs.FanLemmas.{block_power, digest_len_of-most, fan-greatest, fan-power, fan-two, hash_most}
 use Rattle.verity_plan.proofs.FanLemmas.{some_data}
 use Rattle.verity_plan.proofs.FitLemmas.{power_of_two-exponent}
-use Rattle.verity_plan.proofs.PlanLemmas.{level_count-few}
+use Rattle.verity_plan.proofs.PlanLemmas.{level_count-few, level_count-least}
 use Rattle.verity_plan.specs.Plans.{level_count}
 use Rattle.verity_plan.specs.Settings.{IsValid, TreeSettingsFields, digest_len, fan}
 use Rattle.verity_tree.specs.Feeding.{feeding_length}
 use Rattle.verity_tree.specs.Windows.{window_blocks, window_length}
 use Rattle.verity_c.specs.Building.{file_memory_length_of}
-
--- as many levels as a power that isn't below the number of blocks has are enough
-level_count-most : (f n m : ℕ) → 2 ≤ f → n ≤ f ^ m → level_count f n ≤ m
-level_count-most f n m two enough =
-    let count = IsLevelCount-level_count f n two in
-    elim (cases_lt m (level_count f n)) [
-      | inl more ↦ absurd (omega (arith, count.least m more, enough))
-      | inr most ↦ most
-    ]
 
 -- a hash block has fewer bytes than 128 times its slots
 fan-wide : (s : TreeSettingsFields) → s.hash_block < 128 * fan s
@@ -43,7 +34,7 @@ blocks-below n block size most within least past =
 -- so there are few levels of large hash blocks
 levels-below : (s : TreeSettingsFields) (n f m : ℕ) → IsValid s → f ≤ fan s → n ≤ f ^ m → level_count (fan s) n ≤ m
 levels-below s n f m valid wide few =
-    level_count-most (fan s) n m (fan-two s valid) (omega (arith, few, pow-le-pow_left wide m))
+    level_count-least (fan s) n m (fan-two s valid) (omega (arith, few, pow-le-pow_left wide m))
 
 -- as many levels as any tree has
 levels-any : (s : TreeSettingsFields) (n : ℕ) → IsValid s → n * s.data_block ≤ 9223372036854775807

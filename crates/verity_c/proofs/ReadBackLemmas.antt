@@ -1,6 +1,6 @@
 -- What is read of a superblock that parameters write are these parameters.
-use Rattle.std.proofs.Common.{◌≡◌, ◌⊎◌, ℕ, ◌-◌, ◌≤◌, Bool, true, false, List, length, take, replicate, Option, Some}
-use Rattle.std.proofs.Common.{None, Result, Ok, if◌then◌else◌, arith, ap, refl, sym, subst, ◌∙◌, inl, inr}
+use Rattle.std.proofs.Common.{◌≡◌, ℕ, ◌-◌, ◌≤◌, true, List, length, take, replicate, Option, Some}
+use Rattle.std.proofs.Common.{None, Result, Ok, arith, ap, refl, sym, subst, ◌∙◌, inl, inr}
 use Rattle.std.proofs.lemmas.Bool.{eqb-true}
 use Rattle.std.proofs.lemmas.Bool.Decides.{nat_tests}
 use Rattle.std.proofs.lemmas.List.{length-take-le, take_at}
@@ -9,7 +9,7 @@ use Rattle.verity_hash.specs.Hashing.{with_zeros}
 use Rattle.verity_hash.specs.declared.algorithm.Algorithm.{Algorithm}
 use Rattle.verity_hash.specs.declared.algorithm.Algorithm.TheVariants.{Sha1, Sha224, Sha256, Sha384, Sha512}
 use Rattle.verity_format.proofs.LawLemmas.{one-superblock, says-fault_none}
-use Rattle.verity_format.proofs.NameLemmas.{numbered-is}
+use Rattle.verity_format.proofs.NameLemmas.{chosen, numbered-is}
 use Rattle.verity_format.proofs.TextLemmas.{length-superblock_bytes, text_says}
 use Rattle.verity_format.specs.Superblocks.{IsValidSuperblock, SuperblockFields, superblock_bytes}
 use Rattle.verity_format.specs.CheckedSuperblocks.{superblock_fault}
@@ -17,7 +17,7 @@ use Rattle.verity_format.specs.declared.super_fault.SuperFault.{SuperFault}
 use Rattle.verity_plan.specs.Plans.{PlanFields, multiple_of, offset_unit}
 use Rattle.verity_plan.specs.Settings.{TreeSettingsFields, rule_of}
 use Rattle.verity_plan.specs.declared.hash_type.HashType.{HashType}
-use Rattle.verity_tree.proofs.DataBlockLemmas.{blocks-some}
+use Rattle.verity_plan.proofs.PlanLemmas.{blocks-some}
 use Rattle.verity_c.proofs.ParameterLemmas.{AreMadeBy, MakesPlan, made-rule, plan-made, settings_are}
 use Rattle.verity_c.proofs.SuperblockLemmas.{superblock_of-own}
 use Rattle.verity_c.specs.Answers.{ReadsParameters, superblock_in}
@@ -25,12 +25,6 @@ use Rattle.verity_c.specs.Parameters.{algorithm_of, number_of, parameters_of, pl
 use Rattle.verity_c.specs.ReadBack.{HasFields, IsReadBack, read_back}
 use Rattle.verity_c.specs.declared.fault.Fault.{Fault}
 use Rattle.verity_c.specs.declared.parameters.VerityParams.{VerityParams}
-
--- what a choice gives
-chosen : (test : Bool) (x : Algorithm) (rest : Option Algorithm) (y : Algorithm)
-    → (if test then Some x else rest) ≡ Some y → ((test ≡ true) × (x ≡ y)) ⊎ (rest ≡ Some y)
-chosen true x rest y e = inl (refl, cc)
-chosen false x rest y e = inr e
 
 -- the number of the hash function of a number is that number
 number_of-algorithm_of : (number : ℕ) (algorithm : Algorithm) → algorithm_of number ≡ Some algorithm

@@ -6,7 +6,7 @@ use Rattle.verity_format.proofs.ReadLemmas.{hash_type_of-rule_of, superblock_of-
 use Rattle.verity_format.specs.Superblocks.{IsValidSuperblock, SuperblockFields, superblock_bytes}
 use Rattle.verity_format.specs.CheckedSuperblocks.{hash_type_of, superblock_of}
 use Rattle.verity_plan.specs.Plans.{IsPlan, PlanFields}
-use Rattle.verity_tree.proofs.DataBlockLemmas.{blocks-some}
+use Rattle.verity_plan.proofs.PlanLemmas.{blocks-some}
 use Rattle.verity_c.proofs.ParameterLemmas.{made-rule, one_value, plan-made}
 use Rattle.verity_c.proofs.ReadLemmas.{tree-read}
 use Rattle.verity_c.specs.Answers.{superblock_in}

@@ -17,12 +17,12 @@ use Rattle.verity_plan.specs.Plans.{IsPlan, PlanFields, block_count, plan_of_fil
 use Rattle.verity_plan.specs.Settings.{TreeSettingsFields, digest_len}
 use Rattle.verity_tree.proofs.PathLemmas.{accepted-true}
 use Rattle.verity_tree.proofs.PathSteps.{same_or_two}
+use Rattle.verity_tree.proofs.RootLemmas.{length-root_of_file, root_of_some}
 use Rattle.verity_tree.specs.Collisions.{Collide}
 use Rattle.verity_tree.specs.Levels.{block_at, cut, data_blocks, root, root_of_file}
 use Rattle.verity_tree.specs.Paths.{ChecksBlock, IsAccepted}
 use Rattle.verity_tree.specs.declared.path.PathFault.{PathFault}
 use Rattle.verity_tree.specs.declared.path.PathFault.TheVariants as of_path
-use Rattle.verity_c.proofs.BuildingLemmas.{length-root_of_file}
 use Rattle.verity_c.proofs.ParameterLemmas.{file_plan-made, file_settings-made}
 use Rattle.verity_c.proofs.StatusLemmas.{fault-not_done}
 use Rattle.verity_c.specs.Answers.{AnswersBlock, descriptor_in, file_digest_in, with_root}
@@ -123,11 +123,6 @@ block-of_file s bytes i below =
     [] below (omega arith)
     ∙ ap (λ (all : List ℕ). block_at s.data_block all i) (take_all (length bytes) bytes (omega arith))
 
--- a file that isn't empty has the root hash of its tree
-root_of_some : (s : TreeSettingsFields) (size : ℕ) (bytes : List ℕ) → 0 < size
-    → root_of_file s size bytes ≡ root s (data_blocks (plan_of_file s size) bytes)
-root_of_some s size bytes some = grind arith
-
 -- with the file's parameters and root hash, a block that is accepted is the file's, or there is a collision
 block-trusted : (tree : TreeSettingsFields) (bytes : List ℕ) (b : FileBlock) (p : PlanFields)
     → fsverity_tree_of b.params ≡ Ok tree → b.params.size ≡ length bytes
@@ -138,7 +133,7 @@ block-trusted tree bytes b p settings size root_is is planned accepted =
     let q = plan_of_file tree (length bytes) in
     let whole : IsPlan q = subst (λ (x : PlanFields). IsPlan x) is planned in
     let above : b.root ≡ root tree (data_blocks q bytes) =
-    root_is ∙ root_of_some tree (length bytes) bytes whole.some in
+    root_is ∙ sym (root_of_some tree (length bytes) bytes whole.some) in
     let here : IsAccepted q b.index b.block b.path (root tree (data_blocks q bytes)) =
     subst (λ (hash : List ℕ). IsAccepted q b.index b.block b.path hash) above
     (subst (λ (x : PlanFields). IsAccepted x b.index b.block b.path b.root) is accepted) in
@@ -181,7 +176,11 @@ digest-binds params tree bytes digest b made small trusted given =
     let few = size_few p plan.planned in
     elim (one_or_two v w
     (record { tree = of_params.valid; described = (of_params.rule, by.long); size = omega (arith, few, wanted) })
-    (record { tree = of_file.valid; described = (of_file.rule, length-root_of_file tree bytes); size = small })
+    (record {
+      tree = of_file.valid;
+      described = (of_file.rule, length-root_of_file tree (length bytes) bytes);
+      size = small;
+    })
     (answered ∙ sym file_digest)) [
       | inl same ↦
           let trees : p.settings ≡ tree = ap (λ (d : DescriptorFields). d.tree) same in

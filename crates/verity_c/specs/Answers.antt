@@ -14,7 +14,7 @@ use Rattle.verity_tree.specs.Paths.{ChecksBlock}
 use Rattle.verity_tree.specs.declared.path.PathFault.{PathFault}
 use Rattle.verity_tree.specs.declared.path.PathFault.TheVariants.{DiffersAt}
 use Rattle.verity_c.specs.Parameters.{parameters_of}
-use Rattle.verity_c.specs.Statuses.{code_of, done, fault_of_superblock, link_status, path_status}
+use Rattle.verity_c.specs.Statuses.{done, fault_of_superblock, fault_status, link_status, path_status}
 use Rattle.verity_c.specs.declared.fault.Fault.{Fault}
 use Rattle.verity_c.specs.declared.fault.Fault.TheVariants.{Index, Level, Length, Root}
 use Rattle.verity_c.specs.declared.parameters.VerityParams.{VerityParams}
@@ -61,7 +61,7 @@ hash_block_start_in plan i level =
 
 -- the status of a block that is checked by the hash block above it
 abbrev pub link_status_in : Result PlanFields Fault → ℕ → ℕ → List ℕ → List ℕ → ℤ
-link_status_in (Err fault) i level block above = code_of fault
+link_status_in (Err fault) i level block above = fault_status fault
 link_status_in (Ok p) i level block above = link_status (checked_link p i level block above)
 
 -- the plan, if the root hash is as long as its digests
@@ -71,7 +71,7 @@ with_root (Ok p) root = if length root == digest_len p.settings then Ok p else E
 
 -- the status of a top block that is checked by the root hash
 abbrev pub top_status_in : Result PlanFields Fault → ℕ → List ℕ → List ℕ → ℤ
-top_status_in (Err fault) i block root = code_of fault
+top_status_in (Err fault) i block root = fault_status fault
 top_status_in (Ok p) i block root = link_status (checked_top p i block root)
 
 -- what the number of a level becomes: the lowest that differs, if one does
@@ -87,7 +87,7 @@ pub record AnswersPath (p : PlanFields) (i : ℕ) (block path root : List ℕ) (
   pub level_is : after ≡ level_or before answer
 
 pub record AnswersFault (fault : Fault) (status : ℤ) (before after : ℕ) : Type 0 where
-  pub status_is : status ≡ code_of fault
+  pub status_is : status ≡ fault_status fault
   pub level_is : after ≡ before
 
 abbrev pub AnswersBlock : Result PlanFields Fault → ℕ → List ℕ → List ℕ → List ℕ → ℤ → ℕ → ℕ → Type 0
@@ -97,7 +97,7 @@ AnswersBlock (Ok p) i block path root status before after = AnswersPath p i bloc
 -- the status of bytes that are read as a superblock
 abbrev pub superblock_status : Option SuperFault → ℤ
 superblock_status None = done
-superblock_status (Some fault) = code_of (fault_of_superblock fault)
+superblock_status (Some fault) = fault_status (fault_of_superblock fault)
 
 -- what the parameters become by these bytes: those of the superblock at this hash offset
 pub record AreRead (bytes : List ℕ) (offset : ℕ) (after : VerityParams) : Type 0 where

@@ -27,32 +27,32 @@ abbrev pub minus : ℕ → ℤ
 minus n = neg_ℤ (pos n)
 
 -- the status of a fault
-abbrev pub code_of : Fault → ℤ
-code_of Differs = minus 1
-code_of Index = minus 2
-code_of Level = minus 3
-code_of Length = minus 4
-code_of Root = minus 5
-code_of Algorithm = minus 6
-code_of HashType = minus 7
-code_of DataBlockSize = minus 8
-code_of HashBlockSize = minus 9
-code_of SaltSize = minus 10
-code_of HashOffset = minus 11
-code_of NoData = minus 12
-code_of TooLarge = minus 13
-code_of Short = minus 14
-code_of Signature = minus 15
-code_of Version = minus 16
-code_of TooLong = minus 17
-code_of TooShort = minus 18
-code_of Waiting = minus 19
-code_of Part = minus 20
+abbrev pub fault_status : Fault → ℤ
+fault_status Differs = minus 1
+fault_status Index = minus 2
+fault_status Level = minus 3
+fault_status Length = minus 4
+fault_status Root = minus 5
+fault_status Algorithm = minus 6
+fault_status HashType = minus 7
+fault_status DataBlockSize = minus 8
+fault_status HashBlockSize = minus 9
+fault_status SaltSize = minus 10
+fault_status HashOffset = minus 11
+fault_status NoData = minus 12
+fault_status TooLarge = minus 13
+fault_status Short = minus 14
+fault_status Signature = minus 15
+fault_status Version = minus 16
+fault_status TooLong = minus 17
+fault_status TooShort = minus 18
+fault_status Waiting = minus 19
+fault_status Part = minus 20
 
 -- the status of a value or a fault
 abbrev pub status_of : {A : Type 0} → Result A Fault → ℤ
 status_of (Ok _) = done
-status_of (Err fault) = code_of fault
+status_of (Err fault) = fault_status fault
 
 -- the fault of settings, of a plan, of bytes that are no superblock, and of a builder
 abbrev pub fault_of_setting : SettingFault → Fault
@@ -87,13 +87,13 @@ fault_of_feed feed.TooLarge = TooLarge
 -- the status of a data block that is checked by its path, and of one that is checked by the block above it
 abbrev pub path_status : Result Unit PathFault → ℤ
 path_status (Ok _) = done
-path_status (Err path.Index) = code_of Index
-path_status (Err path.Length) = code_of Length
-path_status (Err (path.DiffersAt _)) = code_of Differs
+path_status (Err path.Index) = fault_status Index
+path_status (Err path.Length) = fault_status Length
+path_status (Err (path.DiffersAt _)) = fault_status Differs
 
 abbrev pub link_status : Result Unit LinkFault → ℤ
 link_status (Ok _) = done
-link_status (Err link.Index) = code_of Index
-link_status (Err link.Level) = code_of Level
-link_status (Err link.Length) = code_of Length
-link_status (Err link.Differs) = code_of Differs
+link_status (Err link.Index) = fault_status Index
+link_status (Err link.Level) = fault_status Level
+link_status (Err link.Length) = fault_status Length
+link_status (Err link.Differs) = fault_status Differs

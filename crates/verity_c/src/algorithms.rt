@@ -26,7 +26,7 @@ pub extern "C" fn verity_digest_length(hash_algorithm: u32, length: &mut usize) 
             *length = algorithm.digest_len();
             DONE
         }
-        None => Fault::Algorithm.code(),
+        None => Fault::Algorithm.status(),
     }
 }
 
@@ -47,7 +47,7 @@ pub extern "C" fn verity_algorithm_name(
 {
     match algorithm_of(hash_algorithm) {
         Some(algorithm) => put_text(algorithm.name(), name, length),
-        None => Fault::Algorithm.code(),
+        None => Fault::Algorithm.status(),
     }
 }
 
@@ -64,7 +64,7 @@ pub extern "C" fn verity_algorithm_by_name(name: &[u8], hash_algorithm: &mut u32
             *hash_algorithm = number_of(algorithm);
             DONE
         }
-        None => Fault::Algorithm.code(),
+        None => Fault::Algorithm.status(),
     }
 }
 
@@ -85,17 +85,17 @@ pub extern "C" fn fsverity_formatted_digest(
         ≡ value_or formatted.old (formatted_in (algorithm_of hash_algorithm) digest.now (length formatted.old)) }
 {
     let Some(algorithm) = algorithm_of(hash_algorithm) else {
-        return Fault::Algorithm.code();
+        return Fault::Algorithm.status();
     };
     if algorithm != Algorithm::Sha256 && algorithm != Algorithm::Sha512 {
-        return Fault::Algorithm.code();
+        return Fault::Algorithm.status();
     }
     let digest_len = algorithm.digest_len();
     if digest.len() != digest_len || formatted.len() != 12 + digest_len {
-        return Fault::Length.code();
+        return Fault::Length.status();
     }
     let Some(digest) = Digest::from_bytes(digest) else {
-        return Fault::Length.code();
+        return Fault::Length.status();
     };
     match formatted_digest(algorithm, &digest) {
         Some(bytes) => {
@@ -103,6 +103,6 @@ pub extern "C" fn fsverity_formatted_digest(
             DONE
         }
         // Functions of fs-verity have numbers, so this is never answered.
-        None => Fault::Algorithm.code(),
+        None => Fault::Algorithm.status(),
     }
 }

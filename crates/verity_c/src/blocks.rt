@@ -59,10 +59,10 @@ fn check_block_in(
 {
     let plan = match plan {
         Ok(plan) => plan,
-        Err(fault) => return fault.code(),
+        Err(fault) => return fault.status(),
     };
     let Some(root) = root_from_bytes(plan.settings(), root) else {
-        return Fault::Root.code();
+        return Fault::Root.status();
     };
     let answer = check_block(&plan, index, block, path, &root);
     if let Err(PathFault::DiffersAt(lowest)) = answer {

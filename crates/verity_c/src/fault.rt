@@ -1,7 +1,7 @@
 //! Why a call of the library has no answer but its status.
 ghost use Rattle.std.specs.Prelude.{◌≡◌, Ok};
-ghost use Rattle.verity_c.specs.Statuses.{code_of, fault_of_feed, fault_of_plan, fault_of_setting, fault_of_superblock};
-ghost use Rattle.verity_c.specs.Statuses.{link_status, path_status};
+ghost use Rattle.verity_c.specs.Statuses.{fault_of_feed, fault_of_plan, fault_of_setting, fault_of_superblock};
+ghost use Rattle.verity_c.specs.Statuses.{fault_status, link_status, path_status};
 ghost use Rattle.verity_c.specs.Texts.{fault_numbered, text_of_fault};
 
 use verity_format::SuperFault;
@@ -60,8 +60,8 @@ pub(crate) enum Fault {
 
 impl Fault {
     /// Its status in verity.h: a negative number.
-    pub(crate) fn code(self) -> i32
-        ensures { result ≡ code_of self }
+    pub(crate) fn status(self) -> i32
+        ensures { result ≡ fault_status self }
     {
         match self {
             Fault::Differs => -1,
@@ -204,9 +204,9 @@ pub(crate) fn path_status(answer: Result<(), PathFault>) -> i32
 {
     match answer {
         Ok(()) => DONE,
-        Err(PathFault::Index) => Fault::Index.code(),
-        Err(PathFault::Length) => Fault::Length.code(),
-        Err(PathFault::DiffersAt(_)) => Fault::Differs.code(),
+        Err(PathFault::Index) => Fault::Index.status(),
+        Err(PathFault::Length) => Fault::Length.status(),
+        Err(PathFault::DiffersAt(_)) => Fault::Differs.status(),
     }
 }
 
@@ -216,9 +216,9 @@ pub(crate) fn link_status(answer: Result<(), LinkFault>) -> i32
 {
     match answer {
         Ok(()) => DONE,
-        Err(LinkFault::Index) => Fault::Index.code(),
-        Err(LinkFault::Level) => Fault::Level.code(),
-        Err(LinkFault::Length) => Fault::Length.code(),
-        Err(LinkFault::Differs) => Fault::Differs.code(),
+        Err(LinkFault::Index) => Fault::Index.status(),
+        Err(LinkFault::Level) => Fault::Level.status(),
+        Err(LinkFault::Length) => Fault::Length.status(),
+        Err(LinkFault::Differs) => Fault::Differs.status(),
     }
 }

@@ -28,7 +28,7 @@ pub extern "C" fn fsverity_build_memory(params: &FsverityParams, length: &mut us
             *length = FileBuilder::memory_length(&tree);
             DONE
         }
-        Err(fault) => fault.code(),
+        Err(fault) => fault.status(),
     }
 }
 
@@ -48,7 +48,7 @@ pub extern "C" fn fsverity_build_begin(params: &mut FsverityParams, memory: &mut
     let made = fsverity_settings_of(params);
     let tree = match tree_in(&made, params, memory.len()) {
         Ok(tree) => tree,
-        Err(fault) => return fault.code(),
+        Err(fault) => return fault.status(),
     };
     params.size = FileBuilder::begin(tree, memory).fed;
     DONE
@@ -75,7 +75,7 @@ pub extern "C" fn fsverity_build_feed(
     let made = fsverity_settings_of(params);
     let tree = match tree_in(&made, params, memory.len()) {
         Ok(tree) => tree,
-        Err(fault) => return fault.code(),
+        Err(fault) => return fault.status(),
     };
     let mut builder = FileBuilder {
         settings: *tree,
@@ -86,7 +86,7 @@ pub extern "C" fn fsverity_build_feed(
             params.size = builder.fed;
             DONE
         }
-        Err(fault) => Fault::of_feed(fault).code(),
+        Err(fault) => Fault::of_feed(fault).status(),
     }
 }
 
@@ -119,14 +119,14 @@ pub extern "C" fn fsverity_build_end(
     let made = fsverity_settings_of(params);
     let tree = match tree_in(&made, params, memory.len()) {
         Ok(tree) => tree,
-        Err(fault) => return fault.code(),
+        Err(fault) => return fault.status(),
     };
     let digest_len = tree.algorithm().digest_len();
     if root.len() != digest_len {
-        return Fault::Root.code();
+        return Fault::Root.status();
     }
     if digest.len() != digest_len {
-        return Fault::Length.code();
+        return Fault::Length.status();
     }
     let builder = FileBuilder {
         settings: *tree,
@@ -137,7 +137,7 @@ pub extern "C" fn fsverity_build_end(
             set_digest(&answer, root);
             fsverity_file_digest(params, root, digest)
         }
-        Err(fault) => Fault::of_feed(fault).code(),
+        Err(fault) => Fault::of_feed(fault).status(),
     }
 }
 

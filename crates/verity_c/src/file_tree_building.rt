@@ -36,7 +36,7 @@ pub extern "C" fn fsverity_tree_build_begin(
     let made = fsverity_settings_of(params);
     let tree = match tree_in(&made, params, memory.len()) {
         Ok(tree) => tree,
-        Err(fault) => return fault.code(),
+        Err(fault) => return fault.status(),
     };
     let builder = FileTreeBuilder::begin(tree, memory);
     *build = VerityBuild {
@@ -78,7 +78,7 @@ pub extern "C" fn fsverity_tree_build_feed(
     let made = fsverity_settings_of(params);
     let tree = match tree_in(&made, params, memory.len()) {
         Ok(tree) => tree,
-        Err(fault) => return fault.code(),
+        Err(fault) => return fault.status(),
     };
     let mut builder = FileTreeBuilder {
         settings: *tree,
@@ -94,7 +94,7 @@ pub extern "C" fn fsverity_tree_build_feed(
             *fed = fed_of_file(tree, &answer);
             DONE
         }
-        Err(fault) => Fault::of_feed(fault).code(),
+        Err(fault) => Fault::of_feed(fault).status(),
     }
 }
 
@@ -130,10 +130,10 @@ pub extern "C" fn fsverity_tree_build_end_block(
     let made = fsverity_settings_of(params);
     let tree = match tree_in(&made, params, memory.len()) {
         Ok(tree) => tree,
-        Err(fault) => return fault.code(),
+        Err(fault) => return fault.status(),
     };
     if block.len() != tree.hash_block() as usize {
-        return Fault::Length.code();
+        return Fault::Length.status();
     }
     let builder = FileTreeBuilder {
         settings: *tree,
@@ -145,7 +145,7 @@ pub extern "C" fn fsverity_tree_build_end_block(
             *index = number;
             DONE
         }
-        Err(fault) => Fault::of_feed(fault).code(),
+        Err(fault) => Fault::of_feed(fault).status(),
     }
 }
 
@@ -180,14 +180,14 @@ pub extern "C" fn fsverity_tree_build_end(
     let made = fsverity_settings_of(params);
     let tree = match tree_in(&made, params, memory.len()) {
         Ok(tree) => tree,
-        Err(fault) => return fault.code(),
+        Err(fault) => return fault.status(),
     };
     let digest_len = tree.algorithm().digest_len();
     if root.len() != digest_len {
-        return Fault::Root.code();
+        return Fault::Root.status();
     }
     if digest.len() != digest_len {
-        return Fault::Length.code();
+        return Fault::Length.status();
     }
     let builder = FileTreeBuilder {
         settings: *tree,
@@ -203,7 +203,7 @@ pub extern "C" fn fsverity_tree_build_end(
             };
             fsverity_file_digest(&file, root, digest)
         }
-        Err(fault) => Fault::of_feed(fault).code(),
+        Err(fault) => Fault::of_feed(fault).status(),
     }
 }
 

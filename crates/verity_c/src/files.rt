@@ -31,10 +31,10 @@ pub extern "C" fn fsverity_file_digest(
 {
     let descriptor = match descriptor_of(params, root) {
         Ok(descriptor) => descriptor,
-        Err(fault) => return fault.code(),
+        Err(fault) => return fault.status(),
     };
     if digest.len() != descriptor.algorithm().digest_len() {
-        return Fault::Length.code();
+        return Fault::Length.status();
     }
     digest.copy_from_slice(file_digest(&descriptor).as_bytes());
     DONE
@@ -59,13 +59,13 @@ pub extern "C" fn fsverity_descriptor(
 {
     let bytes = match descriptor_of(params, root) {
         Ok(of_file) => write_descriptor(&of_file),
-        Err(fault) => return fault.code(),
+        Err(fault) => return fault.status(),
     };
     if descriptor.len() == bytes.len() {
         descriptor.copy_from_slice(&bytes);
         DONE
     } else {
-        Fault::Length.code()
+        Fault::Length.status()
     }
 }
 

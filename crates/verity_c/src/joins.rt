@@ -51,7 +51,7 @@ fn set_join_memory(plan: Result<Plan, Fault>, level: usize, length: &mut usize) 
 {
     let plan = match plan_with_level(plan, level) {
         Ok(plan) => plan,
-        Err(fault) => return fault.code(),
+        Err(fault) => return fault.status(),
     };
     *length = JoinBuilder::memory_length(&plan, level);
     DONE
@@ -108,7 +108,7 @@ fn begin_join(
 {
     let plan = match plan_with_memory(plan, level, memory.len()) {
         Ok(plan) => plan,
-        Err(fault) => return fault.code(),
+        Err(fault) => return fault.status(),
     };
     // Called for the proof: its contract says that the plan can be carried out, so each level has a part.
     let _planned = plan.blocks();
@@ -122,7 +122,7 @@ fn begin_join(
             DONE
         }
         // The plan has the level, or one level fewer, so this is never answered.
-        Err(_) => Fault::Level.code(),
+        Err(_) => Fault::Level.status(),
     }
 }
 
@@ -206,10 +206,10 @@ fn feed_join(
 {
     let plan = match plan_with_memory(plan, join.level, memory.len()) {
         Ok(plan) => plan,
-        Err(fault) => return fault.code(),
+        Err(fault) => return fault.status(),
     };
     if digests.len() % plan.digest_len() != 0 {
-        return Fault::Length.code();
+        return Fault::Length.status();
     }
     let mut builder = builder_of(&plan, join);
     match builder.feed(memory, digests) {
@@ -222,7 +222,7 @@ fn feed_join(
             *fed = fed_of(&plan, &answer);
             DONE
         }
-        Err(fault) => Fault::of_feed(fault).code(),
+        Err(fault) => Fault::of_feed(fault).status(),
     }
 }
 
@@ -279,13 +279,13 @@ fn set_last_of_join(plan: Result<Plan, Fault>, join: &VerityJoin, fed: &mut Veri
 {
     let plan = match plan_with_level(plan, join.level) {
         Ok(plan) => plan,
-        Err(fault) => return fault.code(),
+        Err(fault) => return fault.status(),
     };
     if join.closed > plan.levels() - join.level || counts_none_closed(&plan, join) {
-        return Fault::Level.code();
+        return Fault::Level.status();
     }
     if join.taken > plan.count_under(join.level) {
-        return Fault::TooLong.code();
+        return Fault::TooLong.status();
     }
     let answer = Fed {
         taken: 0,
@@ -318,17 +318,17 @@ pub extern "C" fn verity_join_end(
 {
     let plan = match plan_with_memory(plan_of(params), join.level, memory.len()) {
         Ok(plan) => plan,
-        Err(fault) => return fault.code(),
+        Err(fault) => return fault.status(),
     };
     if root.len() != plan.digest_len() {
-        return Fault::Root.code();
+        return Fault::Root.status();
     }
     match builder_of(&plan, join).end(memory) {
         Ok(digest) => {
             set_digest(&digest, root);
             DONE
         }
-        Err(fault) => Fault::of_feed(fault).code(),
+        Err(fault) => Fault::of_feed(fault).status(),
     }
 }
 
@@ -357,20 +357,20 @@ pub extern "C" fn fsverity_join_end(
 {
     let plan = match plan_with_memory(fsverity_plan_of(params), join.level, memory.len()) {
         Ok(plan) => plan,
-        Err(fault) => return fault.code(),
+        Err(fault) => return fault.status(),
     };
     if root.len() != plan.digest_len() {
-        return Fault::Root.code();
+        return Fault::Root.status();
     }
     if digest.len() != plan.digest_len() {
-        return Fault::Length.code();
+        return Fault::Length.status();
     }
     match builder_of(&plan, join).end(memory) {
         Ok(answer) => {
             set_digest(&answer, root);
             fsverity_file_digest(params, root, digest)
         }
-        Err(fault) => Fault::of_feed(fault).code(),
+        Err(fault) => Fault::of_feed(fault).status(),
     }
 }
 

@@ -7,7 +7,7 @@ ghost use Rattle.verity_plan.specs.Plans.{PlanFields, plan_at, superblock_size};
 ghost use Rattle.verity_plan.specs.Settings.{TreeSettingsFields};
 ghost use Rattle.verity_tree.specs.Parts.{bytes_of_part};
 ghost use Rattle.verity_c.specs.Answers.{superblock_in};
-ghost use Rattle.verity_c.specs.Statuses.{code_of, done};
+ghost use Rattle.verity_c.specs.Statuses.{done, fault_status};
 ghost use Rattle.verity_c.specs.Texts.{text_of_fault, text_of_status};
 ghost use Rattle.verity_c.specs.declared.fault.Fault.{Fault};
 ghost use Rattle.verity_c.specs.Building.{digest_of_fed, file_memory_length_of, memory_length_of};
@@ -37,7 +37,7 @@ pub fn read_parameters_write_the_superblock()
 /// Each fault has its text by its status, and no text of a status has more than 63 bytes.
 pub fn statuses_have_their_texts()
     ensures done { text_of_status done ≡ codes "success" }
-    ensures fault { (fault : Fault) → text_of_status (code_of fault) ≡ text_of_fault fault }
+    ensures fault { (fault : Fault) → text_of_status (fault_status fault) ≡ text_of_fault fault }
     ensures most { (status : ℤ) → length (text_of_status status) ≤ 63 }
 {}
 

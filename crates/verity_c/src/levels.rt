@@ -38,7 +38,7 @@ fn set_level_count(plan: Result<Plan, Fault>, levels: &mut usize) -> i32
             *levels = plan.levels();
             DONE
         }
-        Err(fault) => fault.code(),
+        Err(fault) => fault.status(),
     }
 }
 
@@ -87,10 +87,10 @@ fn set_level_start(
 {
     let plan = match plan {
         Ok(plan) => plan,
-        Err(fault) => return fault.code(),
+        Err(fault) => return fault.status(),
     };
     if level >= plan.levels() {
-        return Fault::Level.code();
+        return Fault::Level.status();
     }
     // Called for the proof: its contract says that the plan can be carried out, so each level has a block.
     let _planned = plan.blocks();
@@ -136,13 +136,13 @@ fn set_hash_block_start(plan: Result<Plan, Fault>, index: u64, level: usize, sta
 {
     let plan = match plan {
         Ok(plan) => plan,
-        Err(fault) => return fault.code(),
+        Err(fault) => return fault.status(),
     };
     if index >= plan.blocks() {
-        return Fault::Index.code();
+        return Fault::Index.status();
     }
     if level >= plan.levels() {
-        return Fault::Level.code();
+        return Fault::Level.status();
     }
     *start = plan.start_above(index, level);
     DONE

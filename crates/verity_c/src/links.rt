@@ -52,7 +52,7 @@ fn check_link_in(
 {
     match plan {
         Ok(plan) => link_status(check_link(&plan, index, level, block, above)),
-        Err(fault) => fault.code(),
+        Err(fault) => fault.status(),
     }
 }
 
@@ -90,10 +90,10 @@ fn check_top_in(plan: Result<Plan, Fault>, index: u64, block: &[u8], root: &[u8]
 {
     let plan = match plan {
         Ok(plan) => plan,
-        Err(fault) => return fault.code(),
+        Err(fault) => return fault.status(),
     };
     match root_from_bytes(plan.settings(), root) {
         Some(root) => link_status(check_top(&plan, index, block, &root)),
-        None => Fault::Root.code(),
+        None => Fault::Root.status(),
     }
 }

@@ -63,7 +63,7 @@ fn set_part_count(plan: Result<Plan, Fault>, level: usize, parts: &mut u64, bloc
 {
     let plan = match plan_with_level(plan, level) {
         Ok(plan) => plan,
-        Err(fault) => return fault.code(),
+        Err(fault) => return fault.status(),
     };
     *parts = plan.count_under(level);
     *blocks = PartBuilder::blocks(&plan, level);
@@ -101,7 +101,7 @@ fn set_part_memory(plan: Result<Plan, Fault>, level: usize, length: &mut usize) 
 {
     let plan = match plan_with_level(plan, level) {
         Ok(plan) => plan,
-        Err(fault) => return fault.code(),
+        Err(fault) => return fault.status(),
     };
     *length = PartBuilder::memory_length(&plan, level);
     DONE
@@ -160,7 +160,7 @@ fn begin_part(
 {
     let plan = match plan_with_memory(plan, level, number, memory.len()) {
         Ok(plan) => plan,
-        Err(fault) => return fault.code(),
+        Err(fault) => return fault.status(),
     };
     match PartBuilder::begin(&plan, level, number, memory) {
         Ok(builder) => {
@@ -173,7 +173,7 @@ fn begin_part(
             DONE
         }
         // The plan has the part, so this is never answered.
-        Err(_) => Fault::Part.code(),
+        Err(_) => Fault::Part.status(),
     }
 }
 
@@ -259,7 +259,7 @@ fn feed_part(
 {
     let plan = match plan_with_memory(plan, part.level, part.part, memory.len()) {
         Ok(plan) => plan,
-        Err(fault) => return fault.code(),
+        Err(fault) => return fault.status(),
     };
     let mut builder = builder_of(&plan, part);
     match builder.feed(memory, piece) {
@@ -273,7 +273,7 @@ fn feed_part(
             *fed = fed_of(&plan, &answer);
             DONE
         }
-        Err(fault) => Fault::of_feed(fault).code(),
+        Err(fault) => Fault::of_feed(fault).status(),
     }
 }
 
@@ -327,10 +327,10 @@ fn set_last_of_part(plan: Result<Plan, Fault>, part: &VerityPart, fed: &mut Veri
 {
     let plan = match plan_with_part(plan, part.level, part.part) {
         Ok(plan) => plan,
-        Err(fault) => return fault.code(),
+        Err(fault) => return fault.status(),
     };
     if let Some(fault) = fault_so_far(&plan, part) {
-        return Fault::of_feed(fault).code();
+        return Fault::of_feed(fault).status();
     }
     let answer = Fed {
         taken: 0,
@@ -403,17 +403,17 @@ fn set_part_digest(
 {
     let plan = match plan_with_memory(plan, part.level, part.part, memory.len()) {
         Ok(plan) => plan,
-        Err(fault) => return fault.code(),
+        Err(fault) => return fault.status(),
     };
     if digest.len() != plan.digest_len() {
-        return Fault::Length.code();
+        return Fault::Length.status();
     }
     match builder_of(&plan, part).end(memory) {
         Ok(answer) => {
             set_digest(&answer, digest);
             DONE
         }
-        Err(fault) => Fault::of_feed(fault).code(),
+        Err(fault) => Fault::of_feed(fault).status(),
     }
 }
 

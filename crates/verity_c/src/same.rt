@@ -21,19 +21,19 @@ pub extern "C" fn verity_same_params(params: &VerityParams, trusted: &VerityPara
 {
     let plan = match plan_of(params) {
         Ok(plan) => plan,
-        Err(fault) => return fault.code(),
+        Err(fault) => return fault.status(),
     };
     let trusted = match plan_of(trusted) {
         Ok(trusted) => trusted,
-        Err(fault) => return fault.code(),
+        Err(fault) => return fault.status(),
     };
     if plan.blocks() != trusted.blocks() {
-        return Fault::Differs.code();
+        return Fault::Differs.status();
     }
     if is_same(plan.settings(), trusted.settings()) {
         DONE
     } else {
-        Fault::Differs.code()
+        Fault::Differs.status()
     }
 }
 

@@ -45,6 +45,6 @@ fn set_end(plan: Result<Plan, Fault>, end: &mut u64) -> i32
             *end = plan.end() * plan.hash_block() as u64;
             DONE
         }
-        Err(fault) => fault.code(),
+        Err(fault) => fault.status(),
     }
 }

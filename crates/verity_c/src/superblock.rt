@@ -34,7 +34,7 @@ pub extern "C" fn verity_read_superblock(
             *params = parameters_of(&superblock, hash_offset);
             DONE
         }
-        Err(fault) => Fault::of_superblock(fault).code(),
+        Err(fault) => Fault::of_superblock(fault).status(),
     }
 }
 
@@ -52,14 +52,14 @@ pub extern "C" fn verity_write_superblock(params: &VerityParams, bytes: &mut [u8
 {
     let plan = match plan_of(params) {
         Ok(plan) => plan,
-        Err(fault) => return fault.code(),
+        Err(fault) => return fault.status(),
     };
     if bytes.len() != SUPERBLOCK_SIZE {
-        return Fault::Length.code();
+        return Fault::Length.status();
     }
     // Parameters that make a plan have a superblock, so this is never answered.
     let Some(superblock) = Superblock::new(plan.settings(), params.uuid, plan.blocks()) else {
-        return Fault::Algorithm.code();
+        return Fault::Algorithm.status();
     };
     bytes.copy_from_slice(&write_superblock(&superblock));
     DONE

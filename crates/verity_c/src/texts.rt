@@ -46,7 +46,7 @@ pub(crate) fn put_text(text: &str, buffer: &mut [u8], length: &mut usize) -> i32
 {
     let count = text.len();
     if buffer.len() <= count {
-        return Fault::Length.code();
+        return Fault::Length.status();
     }
     buffer[..count].copy_from_slice(text.as_bytes());
     buffer[count] = 0;

@@ -28,7 +28,7 @@ pub extern "C" fn verity_build_memory(params: &VerityParams, length: &mut usize)
             *length = TreeBuilder::memory_length(&plan);
             DONE
         }
-        Err(fault) => fault.code(),
+        Err(fault) => fault.status(),
     }
 }
 
@@ -49,7 +49,7 @@ pub extern "C" fn verity_build_begin(
 {
     let plan = match plan_with(params, memory.len()) {
         Ok(plan) => plan,
-        Err(fault) => return fault.code(),
+        Err(fault) => return fault.status(),
     };
     let builder = TreeBuilder::begin(&plan, memory);
     *build = VerityBuild {
@@ -91,7 +91,7 @@ pub extern "C" fn verity_build_feed(
 {
     let plan = match plan_with(params, memory.len()) {
         Ok(plan) => plan,
-        Err(fault) => return fault.code(),
+        Err(fault) => return fault.status(),
     };
     let mut builder = TreeBuilder {
         plan,
@@ -107,7 +107,7 @@ pub extern "C" fn verity_build_feed(
             *fed = fed_of(&plan, &answer);
             DONE
         }
-        Err(fault) => Fault::of_feed(fault).code(),
+        Err(fault) => Fault::of_feed(fault).status(),
     }
 }
 
@@ -131,7 +131,7 @@ pub extern "C" fn verity_build_last_block(
 {
     let plan = match plan_of(params) {
         Ok(plan) => plan,
-        Err(fault) => return fault.code(),
+        Err(fault) => return fault.status(),
     };
     let builder = TreeBuilder {
         plan,
@@ -139,10 +139,10 @@ pub extern "C" fn verity_build_last_block(
         closed: build.closed,
     };
     if builder.closed > plan.levels() {
-        return Fault::Level.code();
+        return Fault::Level.status();
     }
     if builder.fed > plan.wanted() {
-        return Fault::TooLong.code();
+        return Fault::TooLong.status();
     }
     let answer = Fed {
         taken: 0,
@@ -177,10 +177,10 @@ pub extern "C" fn verity_build_end(
 {
     let plan = match plan_with(params, memory.len()) {
         Ok(plan) => plan,
-        Err(fault) => return fault.code(),
+        Err(fault) => return fault.status(),
     };
     if root.len() != plan.digest_len() {
-        return Fault::Root.code();
+        return Fault::Root.status();
     }
     let builder = TreeBuilder {
         plan,
@@ -192,7 +192,7 @@ pub extern "C" fn verity_build_end(
             set_digest(&digest, root);
             DONE
         }
-        Err(fault) => Fault::of_feed(fault).code(),
+        Err(fault) => Fault::of_feed(fault).status(),
     }
 }
 

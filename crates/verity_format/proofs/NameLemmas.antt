@@ -25,7 +25,7 @@ numbered-back Original = refl
 numbered-back Current = refl
 
 -- what a choice gives
-chosen : {A : Type 0} (test : Bool) (x : A) (rest : Option A) (y : A) → cond test (Some x) rest ≡ Some y
+pub chosen : {A : Type 0} (test : Bool) (x : A) (rest : Option A) (y : A) → cond test (Some x) rest ≡ Some y
     → ((test ≡ true) × (x ≡ y)) ⊎ (rest ≡ Some y)
 chosen true x rest y e = inl (refl, cc)
 chosen false x rest y e = inr e

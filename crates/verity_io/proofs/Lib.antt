@@ -1,3 +1,3 @@
-pub mod Blocks
+pub mod FilledBuffers
 pub mod Padded
 pub mod KnownLemmas

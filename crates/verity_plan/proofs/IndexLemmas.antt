@@ -9,13 +9,13 @@ use Rattle.verity_plan.specs.PlanCounts.{level_count_of}
 use Rattle.verity_plan.specs.Settings.{fan}
 use Rattle.verity_plan.proofs.CountLemmas.{le-div_ceil}
 
--- one level up a place is divided by the fan
+-- one level up an index is divided by the fan
 pub quotient-next : (f i m : ℕ) → i / f ^ (m + 1) ≡ i / f ^ m / f
 quotient-next f i m =
     let e : m + 1 ≡ suc m = omega arith in
     ap (λ (k : ℕ). i / f ^ k) e ∙ ap (λ (k : ℕ). i / k) (pow-suc f m) ∙ sym (div-div-eq-div-mul i (f ^ m) f)
 
--- the place above number i is below the count, rounded up
+-- the index above index i is below the count, rounded up
 pub quotient-below : (i n w : ℕ) → 0 < w → i < n → i / w < div_ceil n w
 quotient-below i n w some below =
     elim (cases_lt (i / w) (div_ceil n w)) [

@@ -1,21 +1,22 @@
 -- Plans: their levels and places, the limits that they keep, and which ones are made.
 use Rattle.std.proofs.Common.{◌≡◌, ℕ, cond, zero, suc, ◌+◌, ◌*◌, ◌/◌, ◌^◌, ◌<◌, ◌≤◌, arith, sym, ◌∙◌, ap, refl, inl}
-use Rattle.std.proofs.Common.{inr}
+use Rattle.std.proofs.Common.{inr, subst}
 use Rattle.std.proofs.lemmas.Bool.{cases_lt}
 use Rattle.std.proofs.Math.Nat.{pow-suc, pow-le-pow_left, pow-le-pow_right, one-le-pow, mul-le-mul_left}
 use Rattle.std.proofs.Math.Nat.{mul-le-mul_right, mul-le-mul, div-mul-le_self, zero-div}
 use Rattle.std.proofs.Math.Bool.{and-false}
 use Rattle.std.proofs.lemmas.Bool.Decides.{nat_tests}
 use Rattle.std.proofs.lemmas.Nat.{div-add-mod', mod_below}
-use Rattle.std.specs.Prelude.{◌==◌, Bool, nat_le, nat_eq, true, false, Ok, Err}
+use Rattle.std.specs.Prelude.{◌==◌, Bool, nat_le, nat_eq, true, false, Ok, Err, Option, Some, None}
 use Rattle.verity_io.specs.Writing.{most_bytes}
 use Rattle.verity_plan.specs.Plans.{checked_plan, PlanFields, IsPlan, HasBlock, start_byte_of, end_place_of, has_room}
-use Rattle.verity_plan.specs.Plans.{level_count, level_size}
+use Rattle.verity_plan.specs.Plans.{block_count, level_count, level_size, plan_from}
 use Rattle.verity_plan.specs.PlanCounts.{place_of, level_count_of, store_length_of, most_level_count}
 use Rattle.verity_plan.specs.declared.plan_fault.PlanFault.TheVariants.{NoData, TooLarge}
 use Rattle.std.specs.Int.{div_ceil}
-use Rattle.verity_plan.specs.Settings.{fan}
+use Rattle.verity_plan.specs.Settings.{IsValid, TreeSettingsFields, fan}
 use Rattle.verity_plan.proofs.CountLemmas.{div_ceil-div_ceil, IsLevelCount-level_count, le-div_ceil, div_ceil-le}
+use Rattle.verity_plan.proofs.CountLemmas.{div_ceil-mul, div_ceil-pos}
 use Rattle.verity_plan.proofs.FanLemmas.{fan-two, some_data, two_slots, digest_len_of-pos, data_most, hash_most}
 use Rattle.verity_plan.proofs.PlaceLemmas.{PlacesAreOnce-all}
 
@@ -94,6 +95,15 @@ level_count-least f n l two room = elim (cases_lt l (level_count f n)) [
   | inl more ↦ absurd (omega (arith, (IsLevelCount-level_count f n two).least l more, room))
   | inr most ↦ most
 ]
+
+-- a plan has a data block
+pub blocks-some : (p : PlanFields) → IsPlan p → 0 < p.blocks
+blocks-some p planned =
+    omega (
+      arith,
+      planned.blocks_are,
+      div_ceil-pos p.wanted p.settings.data_block (some_data p.settings planned.valid) planned.some,
+    )
 
 -- a number past a quotient is past it as a product, and one within it is within it
 pub past-quotient : (m d n : ℕ) → 0 < d → m / d < n → m < n * d
@@ -176,6 +186,47 @@ planned_is asked plan is = by_tests (asked.blocks == 0) (has_room asked) is
     by_tests true room e = absurd cc
     by_tests false true e = cc
     by_tests false false e = absurd cc
+
+-- a plan that can be carried out is made
+pub checked_plan-planned : (p : PlanFields) → IsPlan p → checked_plan p ≡ Ok p
+checked_plan-planned p planned =
+    let none : nat_eq p.blocks 0 ≡ false = grind (arith, nat_tests, blocks-some p planned) in
+    let of_data : nat_le (p.blocks * p.settings.data_block) most_bytes ≡ true =
+    grind (arith, nat_tests, planned.data_most) in
+    let of_hash : nat_le (end_place_of p * p.settings.hash_block) most_bytes ≡ true =
+    grind (arith, nat_tests, planned.hash_most) in
+    rw (none, of_data, of_hash) refl
+
+-- a plan that is made can be carried out
+pub IsPlan-checked_plan : (asked p : PlanFields) → checked_plan asked ≡ Ok p → IsValid asked.settings
+    → asked.blocks ≡ block_count asked.settings asked.wanted → IsPlan p
+IsPlan-checked_plan asked p made valid counted =
+    subst IsPlan (sym (planned_is asked p (sym made))) (by_tests (asked.blocks == 0) (has_room asked) refl refl made)
+  where
+    by_tests : (none room : Bool) → (asked.blocks == 0) ≡ none → has_room asked ≡ room
+        → cond none (Err NoData) (cond room (Ok asked) (Err TooLarge)) ≡ Ok p → IsPlan asked
+    by_tests true room some fits e = absurd cc
+    by_tests false false some fits e = absurd cc
+    by_tests false true some fits e =
+        let more : 0 < asked.blocks = grind (arith, nat_tests, some) in
+        record {
+          valid = valid;
+          some = some_wanted asked.wanted asked.settings.data_block asked.blocks counted more;
+          blocks_are = counted;
+          data_most = grind (arith, nat_tests, fits);
+          hash_most = grind (arith, nat_tests, fits);
+        }
+
+-- and so can one that is made for whole data blocks
+pub IsPlan-plan_from : (s : TreeSettingsFields) (blocks : ℕ) (base : Option ℕ) (p : PlanFields) → IsValid s
+    → plan_from s blocks base ≡ Ok p → IsPlan p
+IsPlan-plan_from s blocks (Some base) p valid made =
+    IsPlan-checked_plan _ p made valid (sym (div_ceil-mul blocks s.data_block (some_data s valid)))
+IsPlan-plan_from s blocks None p valid made = by_test (blocks == 0) made
+  where
+    by_test : (none : Bool) → cond none (Err NoData) (Err TooLarge) ≡ Ok p → IsPlan p
+    by_test true e = absurd cc
+    by_test false e = absurd cc
 
 -- no plan has more levels than the largest tree of its settings
 pub levels_most : (p : PlanFields) → IsPlan p → level_count_of p ≤ most_level_count p.settings

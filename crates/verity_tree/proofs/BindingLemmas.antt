@@ -17,8 +17,8 @@ use Rattle.verity_plan.specs.Plans.{IsPlan, PlanFields, level_count}
 use Rattle.verity_plan.specs.PlanCounts.{level_count_of}
 use Rattle.verity_plan.specs.Settings.{TreeSettingsFields, fan, hash}
 use Rattle.verity_plan.proofs.CountLemmas.{le-div_ceil}
-use Rattle.verity_tree.proofs.DataBlockLemmas.{blocks-some}
 use Rattle.verity_plan.proofs.FanLemmas.{fan-two, some_data}
+use Rattle.verity_plan.proofs.PlanLemmas.{blocks-some}
 use Rattle.verity_tree.specs.Collisions.{Collide, TreesCollide, hashed_last, with_salt}
 use Rattle.verity_tree.specs.Levels.{block_at, cut, data_blocks, root}
 use Rattle.verity_tree.specs.Links.{block_size_up}

@@ -23,9 +23,8 @@ use Rattle.verity_tree.specs.Paths.{true_chain}
 use Rattle.verity_plan.specs.Settings.{TreeSettingsFields, digest_len, fan, hash, slot, slot_width}
 use Rattle.verity_tree.specs.Verdicts.{digest_in}
 use Rattle.verity_plan.proofs.CountLemmas.{IsLevelCount-level_count}
-use Rattle.verity_tree.proofs.PathSteps.{div-pow-zero}
 use Rattle.verity_tree.proofs.OpenBlockLemmas.{block-up, length-hash, length-slots}
-use Rattle.verity_tree.proofs.OpenBlockSteps.{level_digest-below}
+use Rattle.verity_tree.proofs.OpenBlockSteps.{index-first, level_digest-below}
 use Rattle.verity_plan.proofs.IndexLemmas.{quotient-below, quotient-next}
 use Rattle.verity_tree.proofs.TreeLemmas.{height-level_count}
 
@@ -33,7 +32,7 @@ use Rattle.verity_tree.proofs.TreeLemmas.{height-level_count}
 pub true_chain-blocks_up : (s : TreeSettingsFields) (blocks : List (List ℕ)) (i l : ℕ)
     → true_chain s blocks i l ≡ get_or (blocks_up s blocks l) (i / fan s ^ l) []
 unfolding blocks_up
-true_chain-blocks_up s blocks i zero = ap (λ (n : ℕ). get_or blocks n []) (div-pow-zero (fan s) i)
+true_chain-blocks_up s blocks i zero = ap (λ (n : ℕ). get_or blocks n []) (index-first i (fan s))
 true_chain-blocks_up s blocks i (suc l) =
     let e : l + 1 ≡ suc l = omega arith in ap (λ (k : ℕ). get_or (blocks_up s blocks k) (i / fan s ^ k) []) e
 

@@ -16,9 +16,9 @@ use Rattle.verity_tree.specs.Steps.OpenBlocks.{level_digest}
 use Rattle.verity_tree.specs.TreeOnDevice.{tree_block}
 use Rattle.verity_tree.specs.Steps.OpenBlocks.{open_block}
 use Rattle.verity_tree.proofs.OpenBlockLemmas.{open-cleared}
-use Rattle.verity_tree.proofs.OpenBlockSteps.{HasOpenBlocks-written, IsWritten, IsWritten-part, level_digest-below, part_at}
+use Rattle.verity_tree.proofs.OpenBlockSteps.{HasOpenBlocks-written, IsWritten, IsWritten-range, level_digest-below, range_at}
 use Rattle.verity_tree.proofs.OpenBlockSteps.{hash_block_of-none, level_digest-next, open_block_with-put, quotient-same, slots-order}
-use Rattle.verity_tree.proofs.OpenBlockSteps.{length-part, part-is_run, with_digest, with_part}
+use Rattle.verity_tree.proofs.OpenBlockSteps.{length-range, range-is_run, with_digest, with_range}
 use Rattle.verity_tree.proofs.ReachedLemmas.{IsReached-full, next-slot, quotient-reached, quotient-stays}
 use Rattle.verity_tree.specs.Steps.OpenBlocks.{Adds, HasClosed}
 use Rattle.verity_tree.proofs.OpenBlockSteps.{open_block_with}
@@ -85,18 +85,18 @@ Adds-written s blocks i m levels false store after digest below inside h written
 pub Adds-put : (s : TreeSettingsFields) (blocks : List (List ℕ)) (i m levels index f w n : ℕ) (closed : Bool)
     (store block digest : List ℕ) → f ≡ fan s → w ≡ slot_width s → n ≡ s.hash_block → fan s * slot_width s ≤ s.hash_block
     → i < length blocks → m < levels → m * s.hash_block + s.hash_block ≤ length store → index ≡ i / fan s ^ m
-    → length block ≡ length (part_at store m n) → block ≡ with_digest (part_at store m n) (index % f * w) digest
+    → length block ≡ length (range_at store m n) → block ≡ with_digest (range_at store m n) (index % f * w) digest
     → (closed ≡ true → (f ≤ index % f + 1) ⊎ (i + 1 ≡ length blocks))
     → (closed ≡ false → (index % f + 1 < f) × (i + 1 < length blocks))
-    → IsCarrying s blocks (carry_state i m levels) store digest → Adds closed s blocks i m levels (with_part store m n block)
+    → IsCarrying s blocks (carry_state i m levels) store digest → Adds closed s blocks i m levels (with_range store m n block)
 Adds-put s blocks i m levels index f w n closed store block digest ef ew en fits below inside room place len put ends more h =
     let slot : index % f ≡ i / fan s ^ m % fan s = cc in
     let low : i / fan s ^ m % fan s < fan s = mod_below (i / fan s ^ m) (fan s) (fan-some s) in
     let is = open_block_with-put s blocks i m levels index f w n store block digest ef ew en fits below inside place h.above
     h.digest_is put in
-    Adds-written s blocks i m levels closed store (with_part store m n block) digest below inside h
-    (subst (λ (xs : List ℕ). IsWritten s.hash_block m store xs (with_part store m n block)) is
-    (IsWritten-part s.hash_block m n store block en room (len ∙ length-part s.hash_block m n store en room)))
+    Adds-written s blocks i m levels closed store (with_range store m n block) digest below inside h
+    (subst (λ (xs : List ℕ). IsWritten s.hash_block m store xs (with_range store m n block)) is
+    (IsWritten-range s.hash_block m n store block en room (len ∙ length-range s.hash_block m n store en room)))
     (λ yes. elim (ends yes) [
       | inl full ↦ inl (omega (arith, slot, low, ef, full))
       | inr last ↦ inr last
@@ -105,15 +105,15 @@ Adds-put s blocks i m levels index f w n closed store block digest ef ew en fits
 
 -- a block that closed gives its digest one level up, and leaves zeros
 pub IsCarrying-up : (s : TreeSettingsFields) (blocks : List (List ℕ)) (i m levels n : ℕ) (store zeros digest : List ℕ)
-    → n ≡ s.hash_block → m * s.hash_block + s.hash_block ≤ length store → zeros ≡ replicate (length (part_at store m n)) 0
-    → digest ≡ hash s (part_at store m n) → HasClosed s blocks i m levels store
-    → IsCarrying s blocks (carry_state i (m + 1) levels) (with_part store m n zeros) digest
+    → n ≡ s.hash_block → m * s.hash_block + s.hash_block ≤ length store → zeros ≡ replicate (length (range_at store m n)) 0
+    → digest ≡ hash s (range_at store m n) → HasClosed s blocks i m levels store
+    → IsCarrying s blocks (carry_state i (m + 1) levels) (with_range store m n zeros) digest
 IsCarrying-up s blocks i m levels n store zeros digest en room none is h =
     let f = fan s in
     let size = s.hash_block in
     let digests = digests_under s blocks m in
-    let all : zeros ≡ replicate size 0 = none ∙ ap (λ (k : ℕ). replicate k 0) (length-part size m n store en room) in
-    let written = IsWritten-part size m n store zeros en room (ap length all ∙ length-replicate size 0) in
+    let all : zeros ≡ replicate size 0 = none ∙ ap (λ (k : ℕ). replicate k 0) (length-range size m n store en room) in
+    let written = IsWritten-range size m n store zeros en room (ap length all ∙ length-replicate size 0) in
     record {
       reached = h.reached;
       above = λ l low high. written.others l (inr (omega (arith, low))) ∙ h.above l low high;
@@ -124,7 +124,7 @@ IsCarrying-up s blocks i m levels n store zeros digest en room none is h =
           let cleared : zeros ≡ open_block s digests q = cc in
           HasOpenBlocks-written s blocks (m + 1) (i + 1) written cleared
           (λ l high apart. h.below more l (omega arith) (omega arith));
-      digest_is = is ∙ ap (hash s) (part-is_run size m n store en ∙ h.stands);
+      digest_is = is ∙ ap (hash s) (range-is_run size m n store en ∙ h.stands);
     }
 
 -- a digest that fills no block of level 0 leaves the open blocks of one data block more
@@ -138,7 +138,7 @@ HasOpenBlocks-added s blocks i levels false opened more apart h = h.1
 pub block-with_last : (s : TreeSettingsFields) (blocks : List (List ℕ)) (i m levels index f w n : ℕ)
     (store block digest : List ℕ) → f ≡ fan s → w ≡ slot_width s → n ≡ s.hash_block → fan s * slot_width s ≤ s.hash_block
     → i + 1 ≡ length blocks → m < levels → index ≡ i / fan s ^ m → HasOpenBlocks s blocks m levels i store
-    → digest ≡ level_digest s blocks i m → block ≡ with_digest (part_at store m n) (index % f * w) digest
+    → digest ≡ level_digest s blocks i m → block ≡ with_digest (range_at store m n) (index % f * w) digest
     → block ≡ tree_block s blocks m (i / fan s ^ (m + 1))
 block-with_last s blocks i m levels index f w n store block digest ef ew en fits last inside place above is put =
     let below : i < length blocks = omega (arith, last) in
@@ -151,17 +151,17 @@ pub IsAsking-up : (s : TreeSettingsFields) (blocks : List (List ℕ)) (first i m
     (store block after digest above : List ℕ) → f ≡ fan s → w ≡ slot_width s → n ≡ s.hash_block
     → fan s * slot_width s ≤ s.hash_block → i + 1 ≡ length blocks → first ≤ i → first / fan s ≡ i / fan s → m < levels
     → m * s.hash_block + s.hash_block ≤ length store → index ≡ i / fan s ^ m → start ≡ first / fan s ^ m
-    → block ≡ with_digest (part_at store m n) (index % f * w) digest → above ≡ hash s block
-    → after ≡ take (start % f * w) block ++ replicate (length (part_at store m n) - start % f * w) 0
-    → length after ≡ length (part_at store m n) → IsAsking s blocks first (carry_state i m levels) store digest
-    → IsAsking s blocks first (carry_state i (m + 1) levels) (with_part store m n after) above
+    → block ≡ with_digest (range_at store m n) (index % f * w) digest → above ≡ hash s block
+    → after ≡ take (start % f * w) block ++ replicate (length (range_at store m n) - start % f * w) 0
+    → length after ≡ length (range_at store m n) → IsAsking s blocks first (carry_state i m levels) store digest
+    → IsAsking s blocks first (carry_state i (m + 1) levels) (with_range store m n after) above
 IsAsking-up s blocks first i m levels index start f w n store block after digest above ef ew en fits last order same inside
     room place begins put above_is is long h =
     let below : i < length blocks = omega (arith, last) in
     let q = first / fan s ^ m in
     let digests = digests_under s blocks m in
     let count = i / fan s ^ m % fan s + 1 in
-    let size = length-part s.hash_block m n store en room in
+    let size = length-range s.hash_block m n store en room in
     let closes = open_block_with-put s blocks i m levels index f w n store block digest ef ew en fits below inside place h.above
     h.digest_is put in
     let within : q % fan s ≤ count = omega (arith, slots-order (fan s) first i m (fan-some s) order same) in
@@ -169,7 +169,7 @@ IsAsking-up s blocks first i m levels index start f w n store block after digest
     let clear = open-cleared s (blocks_up s blocks m) q count
     (level_digest-below s blocks first m (fan-some s) (omega (arith, order, below))) within in
     let cleared : after ≡ open_block s digests q = cc in
-    let written = IsWritten-part s.hash_block m n store after en room (long ∙ size) in
+    let written = IsWritten-range s.hash_block m n store after en room (long ∙ size) in
     record {
       below = HasOpenBlocks-written s blocks (m + 1) first written cleared
           (λ l high apart. h.below l (omega arith) (omega arith));

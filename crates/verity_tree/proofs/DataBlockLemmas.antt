@@ -13,10 +13,10 @@ use Rattle.verity_tree.specs.Steps.PlainRoots.{digest_of_block}
 use Rattle.verity_tree.specs.Steps.OpenBlocks.{level_digest}
 use Rattle.verity_plan.specs.Plans.{IsPlan, PlanFields}
 use Rattle.verity_plan.specs.Settings.{TreeSettingsFields, hash, fan}
-use Rattle.verity_plan.proofs.CountLemmas.{mul-lt_div_ceil, div_ceil-pos}
+use Rattle.verity_plan.proofs.CountLemmas.{mul-lt_div_ceil}
 use Rattle.verity_plan.proofs.FanLemmas.{some_data}
 use Rattle.verity_plan.proofs.IndexLemmas.{quotient-below}
-use Rattle.verity_tree.proofs.OpenBlockSteps.{place-first}
+use Rattle.verity_tree.proofs.OpenBlockSteps.{index-first}
 use Rattle.std.specs.Prelude.{nat_le}
 use Rattle.std.proofs.lemmas.Bool.Decides.{nat_tests}
 use Rattle.std.proofs.Math.Nat.{div-eq_of_lt-le}
@@ -44,7 +44,7 @@ pub level_digest-data : (s : TreeSettingsFields) (n wanted i : ℕ) (bytes diges
 unfolding cut blocks_up
 level_digest-data s n wanted i bytes digest below is =
     let block = get_or-map-range_with_len (block_at s.data_block (take wanted bytes)) 0 n i i [] below (omega arith) in
-    let place = place-first i (fan s) in
+    let index = index-first i (fan s) in
     cc
 
 -- a data block begins within what is wanted
@@ -102,15 +102,6 @@ pub HasRead-none : (p : PlanFields) (bytes : List ℕ) → HasRead (bytes_of p 0
 HasRead-none p bytes =
     let none : bytes_of p 0 ≡ 0 = omega arith in
     record { enough = omega (arith, none); rest = ap (λ (k : ℕ). drop k bytes) (sym none) }
-
--- a plan has a data block
-pub blocks-some : (p : PlanFields) → IsPlan p → 0 < p.blocks
-blocks-some p planned =
-    omega (
-      arith,
-      planned.blocks_are,
-      div_ceil-pos p.wanted p.settings.data_block (some_data p.settings planned.valid) planned.some,
-    )
 
 -- bytes that hold all that is wanted hold all blocks
 pub whole_blocks-all : (p : PlanFields) (bytes : List ℕ) → p.wanted ≤ length bytes → whole_blocks p bytes ≡ p.blocks

@@ -1,16 +1,17 @@
 -- Hash blocks of a file that are handed out, joined over all calls with those that are left, are those that building writes.
-use Rattle.std.proofs.Common.{◌≡◌, ℕ, zero, suc, ◌+◌, ◌*◌, ◌/◌, ◌^◌, ◌<◌, ◌≤◌, List, [], ◌∷◌, ◌++◌, length, map, take, drop}
+use Rattle.std.proofs.Common.{◌≡◌, ℕ, zero, suc, ◌+◌, ◌/◌, ◌^◌, ◌<◌, ◌≤◌, List, [], ◌∷◌, ◌++◌, length, map, take, drop}
 use Rattle.std.proofs.Common.{Option, Some, None, arith, refl, sym, ◌∙◌, ap, inl, inr, append_assoc, length-append}
 use Rattle.std.proofs.lemmas.Bool.{cases_lt}
-use Rattle.std.proofs.lemmas.List.{append-nil, length-map}
+use Rattle.std.proofs.lemmas.List.{append-nil}
+use Rattle.std.proofs.lemmas.List.FromFn.{length-map-range_with_len}
 use Rattle.std.specs.List.{flat_map, range_with_len}
 use Rattle.verity_io.specs.Writing.{put}
 use Rattle.verity_plan.specs.Plans.{IsPlan, PlanFields, plan_of_file, start_byte, start_byte_of}
 use Rattle.verity_plan.specs.PlanCounts.{level_count_of, most_level_count}
 use Rattle.verity_plan.specs.Settings.{TreeSettingsFields, fan}
 use Rattle.verity_tree.specs.ClosingOrder.{BlockIndex, block_index, blocks_before, closed_after, first_closing, handed_out}
-use Rattle.verity_tree.specs.FileTrees.{AreLastBlocks, BuildsFileTree, FeedsFile, FileTreeCall, IsAfterTreeCall, IsAfterTreeCalls}
-use Rattle.verity_tree.specs.FileTrees.{IsFedFileTree, IsFinal, asks, block_handed, bytes_taken, feeds, file_blocks}
+use Rattle.verity_tree.specs.FileTrees.{AreLastBlocks, BuildsFileTree, FileTreeCall, IsAfterTreeCalls}
+use Rattle.verity_tree.specs.FileTrees.{IsFedFileTree, IsFinal, asks, block_handed, feeds, file_blocks}
 use Rattle.verity_tree.specs.FileTrees.{file_of_calls, given_of_file, end_index, put_all_handed, put_handed, put_last}
 use Rattle.verity_tree.specs.Levels.{data_blocks}
 use Rattle.verity_tree.specs.TreeOnDevice.{tree_block}
@@ -23,8 +24,8 @@ use Rattle.verity_tree.proofs.OrderSplit.{device_with-append}
 
 -- calls are made one after another
 pub record AreTreeCalled (s : TreeSettingsFields) (calls : List FileTreeCall) (b after : FileTreeBuilder)
-    (room fed file device : List ℕ) : Type 0 where
-  pub fed_is : IsFedFileTree after room (fed ++ file_of_calls calls)
+    (memory_after fed file device : List ℕ) : Type 0 where
+  pub fed_is : IsFedFileTree after memory_after (fed ++ file_of_calls calls)
   pub order : (size : ℕ) → after.fed ≤ size → handed_out (plan_of_file s size) after.fed after.closed
       ≡ handed_out (plan_of_file s size) b.fed b.closed ++ flat_map block_handed calls
   pub stands : file ≡ fed ++ file_of_calls calls → IsPlan (plan_of_file s (length file)) → after.closed ≡ 0
@@ -51,13 +52,9 @@ more-come s count closed after out some order rises =
           let is : closed_after f p.blocks i
           ≡ (closed_after f p.blocks i ++ first_closing f i closed) ++ out =
           sym (append-nil _) ∙ rw same at order in
-          absurd (not-longer _ (first_closing f i closed) out
-          (omega (arith, some, length-first f i 0 closed)) is)
+          let many = length-map-range_with_len (λ level. block_index level (i / f ^ (level + 1))) 0 closed in
+          absurd (not-longer _ (first_closing f i closed) out (omega (arith, some, many)) is)
     ]
-  where
-    length-first : (f i a m : ℕ) → length (map (λ level. block_index level (i / f ^ (level + 1))) (range_with_len a m)) ≡ m
-    length-first f i a zero = refl
-    length-first f i a (suc m) = ap (λ (n : ℕ). suc n) (length-first f i (a + 1) m)
 
 -- what one call hands out, put at its place, is the next of the tree's blocks
 handed-put : (s : TreeSettingsFields) (fed taken memory more file device : List ℕ) (hash_block : Option FileHashBlock)
@@ -75,20 +72,20 @@ handed-put s fed taken memory more file device (Some block) final goes_on is pla
     rw (bytes, length-cut s p.blocks p.wanted file) refl
 
 pub tree-calls-joined : (s : TreeSettingsFields) (calls : List FileTreeCall) (b after : FileTreeBuilder)
-    (memory room fed file device : List ℕ) → b.settings ≡ s → IsFedFileTree b memory fed
-    → IsAfterTreeCalls b memory calls after room → AreTreeCalled s calls b after room fed file device
+    (memory memory_after fed file device : List ℕ) → b.settings ≡ s → IsFedFileTree b memory fed
+    → IsAfterTreeCalls b memory calls after memory_after → AreTreeCalled s calls b after memory_after fed file device
 unfolding IsAfterTreeCalls put_all_handed device_with
-tree-calls-joined s [] b after memory room fed file device settings h calls = record {
+tree-calls-joined s [] b after memory memory_after fed file device settings h calls = record {
   fed_is = rw (append-nil, calls.1, calls.0) h;
   order = λ size enough. rw (calls.0, append-nil) refl;
   stands = λ is planned none. refl;
 }
-tree-calls-joined s (feeds taken hash_block held ∷ rest) b after memory room fed file device settings h calls =
+tree-calls-joined s (feeds taken hash_block held ∷ rest) b after memory memory_after fed file device settings h calls =
     let next = calls.0 in
     let step = calls.1.1 fed h in
     let bytes = file_of_calls rest in
     let blocks = flat_map block_handed rest in
-    let goes_on = tree-calls-joined s rest next after held room (fed ++ taken) file
+    let goes_on = tree-calls-joined s rest next after held memory_after (fed ++ taken) file
     (put_handed (plan_of_file s (length file)) (feeds taken hash_block held) device) (calls.1.0 ∙ settings) step.is_fed calls.2 in
     let rises : next.fed ≤ after.fed =
     omega (arith, step.is_fed.count, goes_on.fed_is.count, length-append (fed ++ taken) bytes) in
@@ -111,10 +108,11 @@ tree-calls-joined s (feeds taken hash_block held ∷ rest) b after memory room f
           (λ block out. rw settings at (step.stands block out)) more is_all planned)
           ∙ sym (device_with-append s (file_blocks s file) 0 (given_of_file hash_block) blocks device);
     }
-tree-calls-joined s (asks held ∷ rest) b after memory room fed file device settings h calls =
+tree-calls-joined s (asks held ∷ rest) b after memory memory_after fed file device settings h calls =
     let next = calls.0 in
     let same = calls.1.0 in
-    let goes_on = tree-calls-joined s rest next after held room fed file device (ap (λ (x : FileTreeBuilder). x.settings) same ∙ settings)
+    let goes_on = tree-calls-joined s rest next after held memory_after fed file device
+    (ap (λ (x : FileTreeBuilder). x.settings) same ∙ settings)
     (rw same (calls.1.1 fed h)) calls.2 in
     record {
       fed_is = goes_on.fed_is;
@@ -143,19 +141,19 @@ last-put p file device blocks from (suc count) within are =
     (map (λ level. block_index level (end_index s p.wanted level)) (range_with_len (from + 1) count)))
     (rw (are from (omega (arith, within)), place) refl)
 
-pub tree-calls-build : (b after : FileTreeBuilder) (memory room device : List ℕ) (calls : List FileTreeCall)
-    (blocks : ℕ → List ℕ) → IsFedFileTree b memory [] → IsAfterTreeCalls b memory calls after room → after.closed ≡ 0
-    → IsPlan (plan_of_file b.settings (length (file_of_calls calls)))
+pub tree-calls-build : (b after : FileTreeBuilder) (memory memory_after device : List ℕ) (calls : List FileTreeCall)
+    (blocks : ℕ → List ℕ) → IsFedFileTree b memory [] → IsAfterTreeCalls b memory calls after memory_after
+    → after.closed ≡ 0 → IsPlan (plan_of_file b.settings (length (file_of_calls calls)))
     → AreLastBlocks (plan_of_file b.settings (length (file_of_calls calls))) (file_of_calls calls) blocks
-    → IsFedFileTree after room (file_of_calls calls)
+    → IsFedFileTree after memory_after (file_of_calls calls)
     × BuildsFileTree (plan_of_file b.settings (length (file_of_calls calls))) (file_of_calls calls) calls blocks device
-tree-calls-build b after memory room device calls blocks h fed_to none planned are =
+tree-calls-build b after memory memory_after device calls blocks h fed_to none planned are =
     let s = b.settings in
     let file = file_of_calls calls in
     let p = plan_of_file s (length file) in
     let f = fan s in
     let i = blocks_before s p.wanted in
-    let done = tree-calls-joined s calls b after memory room [] file device refl h fed_to in
+    let done = tree-calls-joined s calls b after memory memory_after [] file device refl h fed_to in
     let first = first-closed (plan_of_file s 1) (most_level_count s) b.closed _ _ h.stands in
     let all : after.fed ≡ length file = sym done.fed_is.count in
     let start : handed_out p b.fed b.closed ≡ [] = rw (← h.count, first) (none-handed-out p) in

@@ -25,7 +25,8 @@ use Rattle.verity_tree.specs.Levels.{data_blocks}
 use Rattle.verity_tree.specs.Parts.{closed_in_join, closed_in_part}
 use Rattle.verity_tree.specs.Verdicts.{differs, verdict, verdict_by}
 use Rattle.verity_tree.proofs.DataBlockLemmas.{whole_blocks-all}
-use Rattle.verity_tree.proofs.OrderLemmas.{closes-time, indices}
+use Rattle.verity_tree.proofs.OrderLemmas.{closes-time}
+use Rattle.verity_tree.proofs.OrderSplit.{passing}
 
 -- what holds of each block of a list holds of the one that is found
 find-if : (P : BlockIndex → Type 0) (test : BlockIndex → Bool) (blocks : List BlockIndex) → All P blocks
@@ -164,7 +165,7 @@ both-more f n level test a blocks above both = elim (cases_lt a.level level) [
 
 -- what holds of the block of each level of a run that passes
 All-run : (P : BlockIndex → Type 0) (g : ℕ → ℕ) (c : ℕ → Bool) (a k : ℕ)
-    → ((l : ℕ) → a ≤ l → c l ≡ true → P (block_index l (g l))) → All P (indices g c (range_with_len a k))
+    → ((l : ℕ) → a ≤ l → c l ≡ true → P (block_index l (g l))) → All P (passing g c (range_with_len a k))
 All-run P g c a zero each = All-nil P
 All-run P g c a (suc k) each =
     let rest = All-run P g c (a + 1) k (λ l from. each l (omega (arith, from))) in
@@ -176,12 +177,12 @@ All-run P g c a (suc k) each =
 -- blocks of rising levels that close with one data block
 both-run : (f n t level : ℕ) (test : BlockIndex → Bool) (g : ℕ → ℕ) (c : ℕ → Bool) (a k : ℕ)
     → ((l : ℕ) → c l ≡ true → closing_moment f n (block_index l (g l)) ≡ t)
-    → FirstOfBoth f n level test (indices g c (range_with_len a k))
+    → FirstOfBoth f n level test (passing g c (range_with_len a k))
 both-run f n t level test g c a zero time = refl
 both-run f n t level test g c a (suc k) time =
     let rest = both-run f n t level test g c (a + 1) k time in
     elim (cases_Bool (c a)) [
-      | inl does ↦ rw does (both-more f n level test (block_index a (g a)) (indices g c (range_with_len (a + 1) k))
+      | inl does ↦ rw does (both-more f n level test (block_index a (g a)) (passing g c (range_with_len (a + 1) k))
           (All-run (Above f n (block_index a (g a))) g c (a + 1) k
           (λ l from passes. (time l passes ∙ sym (time a does), omega (arith, from)))) rest)
       | inr fails ↦ rw fails rest

@@ -1,11 +1,10 @@
 -- Hash blocks that are handed out stay the tree's, and joined over all calls they are those that building writes.
-use Rattle.std.proofs.Common.{map, ◌≡◌, ℕ, ◌+◌, ◌*◌, ◌/◌, ◌^◌, ◌<◌, ◌≤◌, List, [], ◌∷◌, ◌++◌, get_or, length, min, zero, suc}
+use Rattle.std.proofs.Common.{◌≡◌, ℕ, ◌+◌, ◌*◌, ◌/◌, ◌^◌, ◌<◌, ◌≤◌, List, [], ◌∷◌, ◌++◌, get_or, length, min, zero, suc}
 use Rattle.std.proofs.Common.{Option, Some, None, arith, refl, sym, ◌∙◌, ap, inl, inr, append_assoc}
 use Rattle.std.proofs.Common.{length-append}
 use Rattle.std.proofs.lemmas.Bool.{cases_lt}
 use Rattle.std.proofs.lemmas.List.{append-nil, nil_from_length}
 use Rattle.std.proofs.Math.Nat.{one-le-pow, zero-div}
-use Rattle.std.proofs.lemmas.List.Folds.{flat_map-map}
 use Rattle.std.specs.List.{flat_map}
 use Rattle.std.specs.Int.{div_ceil}
 use Rattle.verity_plan.specs.Plans.{IsPlan, PlanFields}
@@ -15,14 +14,13 @@ use Rattle.verity_plan.proofs.CountLemmas.{mul_le}
 use Rattle.verity_plan.proofs.FanLemmas.{fan-some}
 use Rattle.verity_plan.proofs.IndexLemmas.{quotient-below}
 use Rattle.verity_tree.specs.ClosingOrder.{BlockIndex, closed_after, handed_out, blocks_before}
-use Rattle.verity_tree.specs.Feeding.{BuildsInCalls, FeedCall, FeedsCalls, FeedsPieces, IsFed, IsFedFile, IsHandedOut}
-use Rattle.verity_tree.specs.Feeding.{FileCall, IsAfterCall, IsAfterCalls, asks, bytes_fed, feeds, given, written, written_all}
+use Rattle.verity_tree.specs.Feeding.{BuildsInCalls, FeedCall, FeedsCalls, IsFed, IsHandedOut}
+use Rattle.verity_tree.specs.Feeding.{given, written, written_all}
 use Rattle.verity_tree.specs.Levels.{data_blocks}
 use Rattle.verity_tree.specs.Steps.Feeding.{EndsWindow, IsHandingOut, Stands}
 use Rattle.verity_tree.specs.Steps.OpenBlocks.{HasClosed}
 use Rattle.verity_tree.specs.TreeOnDevice.{tree_block}
 use Rattle.verity_tree.specs.TreeWriting.{device_with}
-use Rattle.verity_tree.specs.declared.file_builder.FileBuilder.{FileBuilder}
 use Rattle.verity_tree.specs.declared.tree_builder.HashBlock.{HashBlock}
 use Rattle.verity_tree.specs.declared.tree_builder.TreeBuilder.{TreeBuilder}
 use Rattle.verity_tree.proofs.LastByteLemmas.{last-below, last-block, whole-block}
@@ -88,30 +86,6 @@ pub handed-out-stays : (p : PlanFields) (levels level : ℕ) (fed more opened : 
 handed-out-stays p levels level fed more opened planned h most =
     closed-stays p levels level fed more opened planned h.ends h.closed most
 
--- after one call the settings are those before it, and the bytes those before it and those that are fed with it
-call-fed : (b after : FileBuilder) (memory room fed : List ℕ) (call : FileCall) → IsAfterCall b memory call after room
-    → IsFedFile b memory fed → (after.settings ≡ b.settings) × IsFedFile after room (fed ++ bytes_fed call)
-call-fed b after memory room fed (feeds piece) step h = (step.0, step.1 fed h)
-call-fed b after memory room fed asks step h = rw (append-nil, step.0) (refl, step.1 fed h)
-
--- and after several
-pub asked-joined : (b after : FileBuilder) (memory room fed : List ℕ) (calls : List FileCall) → IsFedFile b memory fed
-    → IsAfterCalls b memory calls after room
-    → (after.settings ≡ b.settings) × IsFedFile after room (fed ++ flat_map bytes_fed calls)
-unfolding IsAfterCalls
-asked-joined b after memory room fed [] h calls = rw (append-nil, calls.1, calls.0) (refl, h)
-asked-joined b after memory room fed (call ∷ rest) h calls =
-    let first = call-fed b calls.0 memory calls.1 fed call calls.2 h in
-    let others = asked-joined calls.0 after calls.1 room (fed ++ bytes_fed call) rest first.1 calls.3 in
-    rw (← append_assoc) (others.0 ∙ first.0, others.1)
-
--- pieces are fed one after another
-pub pieces-joined : (b after : FileBuilder) (memory room fed : List ℕ) (pieces : List (List ℕ)) → IsFedFile b memory fed
-    → FeedsPieces b memory pieces after room
-    → (after.settings ≡ b.settings) × IsFedFile after room (fed ++ flat_map (λ piece. piece) pieces)
-pieces-joined b after memory room fed pieces h calls =
-    rw (← flat_map-map bytes_fed feeds pieces) (asked-joined b after memory room fed (map feeds pieces) h calls)
-
 -- what one call hands out, written, is the next of the tree's blocks put at its place
 written-given : (p : PlanFields) (closed : Option HashBlock) (memory fed more all device : List ℕ)
     → ((block : HashBlock) → closed ≡ Some block → IsHandedOut p fed memory block) → all ≡ fed ++ more
@@ -125,31 +99,33 @@ written-given p (Some block) memory fed more all device handed is most =
     rw (h.start_is, bytes, is, length-cut p.settings p.blocks p.wanted (fed ++ more)) refl
 
 -- calls are made one after another
-pub record AreCalled (p : PlanFields) (calls : List FeedCall) (b after : TreeBuilder) (room fed all device : List ℕ) : Type 0 where
+pub record AreCalled (p : PlanFields) (calls : List FeedCall) (b after : TreeBuilder)
+    (memory_after fed all device : List ℕ) : Type 0 where
   pub plan_is : after.plan ≡ p
-  pub fed_is : IsFed after room (fed ++ flat_map (λ call. call.taken) calls)
+  pub fed_is : IsFed after memory_after (fed ++ flat_map (λ call. call.taken) calls)
   pub order : handed_out p after.fed after.closed
       ≡ handed_out p b.fed b.closed ++ flat_map (λ call. given call.hash_block) calls
   pub stands : all ≡ fed ++ flat_map (λ call. call.taken) calls → length all ≤ p.wanted
       → written_all p calls device
       ≡ device_with p.settings (data_blocks p all) p.base (flat_map (λ call. given call.hash_block) calls) device
 
-pub calls-joined : (p : PlanFields) (calls : List FeedCall) (b after : TreeBuilder) (memory room fed all device : List ℕ)
-    → b.plan ≡ p → IsFed b memory fed → FeedsCalls b memory calls after room
-    → AreCalled p calls b after room fed all device
+pub calls-joined : (p : PlanFields) (calls : List FeedCall) (b after : TreeBuilder)
+    (memory memory_after fed all device : List ℕ) → b.plan ≡ p → IsFed b memory fed
+    → FeedsCalls b memory calls after memory_after
+    → AreCalled p calls b after memory_after fed all device
 unfolding FeedsCalls written_all device_with
-calls-joined p [] b after memory room fed all device plan h calls = record {
+calls-joined p [] b after memory memory_after fed all device plan h calls = record {
   plan_is = rw calls.0 plan;
   fed_is = rw (append-nil, calls.1, calls.0) h;
   order = rw (calls.0, append-nil) refl;
   stands = λ is most. refl;
 }
-calls-joined p (call ∷ rest) b after memory room fed all device plan h calls =
+calls-joined p (call ∷ rest) b after memory memory_after fed all device plan h calls =
     let next = calls.0 in
     let step = calls.2 fed h in
     let taken = flat_map (λ (c : FeedCall). c.taken) rest in
     let blocks = flat_map (λ (c : FeedCall). given c.hash_block) rest in
-    let goes_on = calls-joined p rest next after call.memory room (fed ++ call.taken) all
+    let goes_on = calls-joined p rest next after call.memory memory_after (fed ++ call.taken) all
     (written p call.hash_block call.memory device) (calls.1 ∙ plan) step.is_fed calls.3 in
     record {
       plan_is = goes_on.plan_is;
@@ -188,15 +164,15 @@ pub first-closed : (p : PlanFields) (levels closed : ℕ) (opened window : List 
 first-closed p levels zero opened window h = refl
 first-closed p levels (suc m) opened window h = absurd (omega (arith, h.ends.some))
 
-pub calls-build : (b after : TreeBuilder) (memory room device : List ℕ) (calls : List FeedCall) → IsPlan b.plan
-    → IsFed b memory [] → FeedsCalls b memory calls after room → after.fed ≡ b.plan.wanted
+pub calls-build : (b after : TreeBuilder) (memory memory_after device : List ℕ) (calls : List FeedCall) → IsPlan b.plan
+    → IsFed b memory [] → FeedsCalls b memory calls after memory_after → after.fed ≡ b.plan.wanted
     → after.closed ≡ level_count_of b.plan
-    → IsFed after room (flat_map (λ call. call.taken) calls)
+    → IsFed after memory_after (flat_map (λ call. call.taken) calls)
     × BuildsInCalls b.plan (flat_map (λ call. call.taken) calls) calls device
-calls-build b after memory room device calls planned h fed_to all closed =
+calls-build b after memory memory_after device calls planned h fed_to all closed =
     let p = b.plan in
     let bytes = flat_map (λ (c : FeedCall). c.taken) calls in
-    let done = calls-joined p calls b after memory room [] bytes device refl h fed_to in
+    let done = calls-joined p calls b after memory memory_after [] bytes device refl h fed_to in
     let first = first-closed p (level_count_of p) b.closed _ _ h.stands in
     let none : handed_out p b.fed b.closed ≡ [] = rw (← h.count, first) (none-handed-out p) in
     let order : flat_map (λ (c : FeedCall). given c.hash_block) calls ≡ closed_after (fan p.settings) p.blocks p.blocks =

@@ -23,7 +23,7 @@ use Rattle.verity_tree.proofs.FeedingLemmas.{open_block-within, joined}
 use Rattle.verity_tree.proofs.JoinLemmas.{JoinStands-closed}
 use Rattle.verity_tree.proofs.JoinOrder.{handed-out-raised, raised}
 use Rattle.verity_tree.proofs.LevelLemmas.{length-cut}
-use Rattle.verity_tree.proofs.OpenBlockSteps.{part-is_run, place-first}
+use Rattle.verity_tree.proofs.OpenBlockSteps.{range-is_run, index-first}
 use Rattle.verity_tree.proofs.PlanOfJoin.{IsPlan-join, blocks_up-up, length-under, levels-of_join, parts-some}
 use Rattle.verity_tree.proofs.TreeLemmas.{height-level_count}
 
@@ -76,7 +76,7 @@ unfolding blocks_up
 HasDigests-parts p level from digests bytes h = λ k low.
     h k low
     ∙ ap (λ (i : ℕ). hash p.settings (get_or (blocks_under p level bytes) i []))
-    (place-first (from + k) (fan p.settings))
+    (index-first (from + k) (fan p.settings))
 
 -- digests were joined, and the memory stands in two parts
 pub record HasJoinedOn (b : JoinBuilder) (taken closed : ℕ) (bytes : List ℕ) (closes : Bool)
@@ -216,7 +216,7 @@ root-of_top b levels size memory bytes planned within some count wide closed all
     let out : HasClosed s blocks (b.taken - 1) l own (open_blocks s own memory) =
     rw top at (JoinStands-closed s blocks own b.taken b.closed (open_blocks s own memory) _
     (omega (arith, some, closed)) h) in
-    ap (hash s) (part-is_run s.hash_block l size memory wide ∙ sym (open_block-within s.hash_block l own memory
+    ap (hash s) (range-is_run s.hash_block l size memory wide ∙ sym (open_block-within s.hash_block l own memory
     (omega (arith, up, count))) ∙ out.stands)
     ∙ ap (λ (k : ℕ). level_digest s blocks (b.taken - 1) k) up
     ∙ ap (λ (k : ℕ). level_digest s blocks (k - 1) levels) all

@@ -18,7 +18,7 @@ use Rattle.verity_plan.proofs.CountLemmas.{mul_le, mul-lt_div_ceil}
 use Rattle.verity_tree.specs.ClosingOrder.{BlockIndex, block_index, closed_after, closes, closing_with, first_closing}
 use Rattle.verity_tree.specs.Parts.{closed_in_join, handed_out_of_join}
 use Rattle.verity_tree.specs.Steps.Parts.{handed_out_above}
-use Rattle.verity_tree.proofs.OrderSplit.{closed_after-more, passing}
+use Rattle.verity_tree.proofs.OrderSplit.{closed_after-more, passing, passing-none}
 use Rattle.verity_tree.proofs.PlanOfJoin.{level_count-above}
 
 -- a hash block of the join's own tree, as one of the whole
@@ -60,13 +60,6 @@ none-below m g c a (suc k) low =
         (cond b (a ∷ filter c (range_with_len (a + 1) k)) (filter c (range_with_len (a + 1) k)))) ≡ []
     by_test true below rest = rw below rest
     by_test false below rest = rest
-
--- no level of a run passes
-none-pass : (g : ℕ → ℕ) (c : ℕ → Bool) (a k : ℕ) → ((l : ℕ) → a ≤ l → c l ≡ false)
-    → passing g c (range_with_len a k) ≡ []
-none-pass g c a zero fail = refl
-none-pass g c a (suc k) fail =
-    rw (fail a (omega arith)) (none-pass g c (a + 1) k (λ l from. fail l (omega (arith, from))))
 
 -- the levels of the join have those of its own tree
 same-above : (m : ℕ) (g own_g : ℕ → ℕ) (c own_c : ℕ → Bool) (a b k : ℕ) → b ≡ m + a → ((l : ℕ) → c (m + l) ≡ own_c l)
@@ -182,8 +175,8 @@ closed-within f n t m (suc r) some within room below =
     ∙ ap (filter (is_above m)) (closed_after-more f n i)
     ∙ filter-append (is_above m) (closed_after f n i) (closing_with f n i)
     ∙ ap (λ (bs : List BlockIndex). closed_in_join f n m i ++ bs) (closing-above f n i m within
-    ∙ ap (filter (is_above m)) (none-pass (λ level. i / f ^ (level + 1)) (closes f n i) m (level_count f n - m)
-    (λ l high. none-within f n t r m l some (omega (arith, room)) (omega (arith, below)) high)))
+    ∙ ap (filter (is_above m)) (passing-none (λ level. i / f ^ (level + 1)) (closes f n i) m (level_count f n - m)
+    (λ l high _. none-within f n t r m l some (omega (arith, room)) (omega (arith, below)) high)))
     ∙ append-nil _
     ∙ closed-within f n t m r some within (omega (arith, room)) (omega (arith, below))
 

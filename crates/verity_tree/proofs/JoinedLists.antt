@@ -1,5 +1,5 @@
--- Lists of one length, joined.
-use Rattle.std.proofs.Common.{◌≡◌, ℕ, zero, suc, ◌+◌, ◌*◌, ◌<◌, ◌≤◌, List, length, arith, ◌∙◌, ap}
+-- Lists that are joined.
+use Rattle.std.proofs.Common.{◌≡◌, ℕ, zero, suc, ◌+◌, ◌*◌, ◌<◌, ◌≤◌, List, length, arith, ◌∙◌, ap, ◌++◌, refl}
 use Rattle.std.proofs.Common.{length-append}
 use Rattle.std.proofs.lemmas.List.{take_at}
 use Rattle.std.proofs.Math.Seq.{drop-append-add}
@@ -28,3 +28,13 @@ piece f size from (suc n) (suc l) below each =
     let same : from + 1 + l ≡ from + suc l = omega arith in
     rw (past, drop-append-add (f from)) (piece f size (from + 1) n l (omega arith)
     (λ m a b. each m (omega (arith, a)) (omega (arith, b))) ∙ ap f same)
+
+-- the same lists for each number, the same joined
+pub flat_map-same : (f g : ℕ → List ℕ) (from count : ℕ)
+    → ((k : ℕ) → from ≤ k → k < from + count → f k ≡ g k)
+    → flat_map f (range_with_len from count) ≡ flat_map g (range_with_len from count)
+flat_map-same f g from zero same = refl
+flat_map-same f g from (suc count) same =
+    ap (λ (xs : List ℕ). xs ++ flat_map f (range_with_len (from + 1) count)) (same from (omega arith) (omega arith))
+    ∙ ap (λ (xs : List ℕ). g from ++ xs) (flat_map-same f g (from + 1) count
+    (λ k least most. same k (omega (arith, least)) (omega (arith, most))))

@@ -29,6 +29,7 @@ pub mod LinkLemmas
 pub mod BindingLemmas
 pub mod LastByteLemmas
 pub mod ClimbLemmas
+pub mod FileCalls
 pub mod HandedOutLemmas
 pub mod WindowSteps
 pub mod AdvanceLemmas

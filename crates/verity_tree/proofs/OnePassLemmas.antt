@@ -27,7 +27,8 @@ use Rattle.verity_tree.proofs.WindowLemmas.{placed-in-window}
 use Rattle.std.proofs.lemmas.List.Elements.{Contains-append_left, Contains-append_right}
 use Rattle.std.specs.Prelude.{Bool, true, false, Some, None, if◌then◌else◌}
 use Rattle.verity_plan.proofs.CountLemmas.{le-div_ceil, mul_le}
-use Rattle.verity_tree.proofs.DataBlockLemmas.{HasRead-none, blocks-some, data-next}
+use Rattle.verity_plan.proofs.PlanLemmas.{blocks-some}
+use Rattle.verity_tree.proofs.DataBlockLemmas.{HasRead-none, data-next}
 use Rattle.std.proofs.lemmas.Bool.{cases_lt}
 use borrow.Rule.Slice.PartMut.{put_mid}
 use Rattle.verity_hash.specs.Hashing.{with_zeros}

@@ -29,13 +29,13 @@ use Rattle.verity_tree.proofs.OpenBlockLemmas.{open-push, open-close, block-up}
 abbrev pub open_block_with : TreeSettingsFields → List (List ℕ) → ℕ → List ℕ
 open_block_with s digests q = hash_block_of s (take (q % fan s + 1) (drop (q / fan s * fan s) digests))
 
--- the part of a store with n bytes for each level, as the code cuts it out
-abbrev pub part_at : List ℕ → ℕ → ℕ → List ℕ
-part_at store m n = take (m * n + n - m * n) (drop (m * n) store)
+-- the range of a level in a store with n bytes for each, as the code cuts it out
+abbrev pub range_at : List ℕ → ℕ → ℕ → List ℕ
+range_at store m n = take (m * n + n - m * n) (drop (m * n) store)
 
--- the store with another part
-abbrev pub with_part : List ℕ → ℕ → ℕ → List ℕ → List ℕ
-with_part store m n part = put_mid (m * n) (m * n + n - m * n) store part
+-- the store with other bytes in this range
+abbrev pub with_range : List ℕ → ℕ → ℕ → List ℕ → List ℕ
+with_range store m n bytes = put_mid (m * n) (m * n + n - m * n) store bytes
 
 -- a block with a digest at a place
 abbrev pub with_digest : List ℕ → ℕ → List ℕ → List ℕ
@@ -65,14 +65,14 @@ chunk-same xs ys size m a k place len room =
     let own = between-put_mid a k xs ys (m * size + size) (omega (arith, place, room)) (omega (arith, place, len)) in
     cc
 
--- a part of a store is a run of it
-pub part-is_run : (size m n : ℕ) (store : List ℕ) → n ≡ size → part_at store m n ≡ slice_chunk store size m
-part-is_run size m n store is = let wide : m * n + n - m * n ≡ size = omega (arith, is) in cc
+-- the range of a level is its run
+pub range-is_run : (size m n : ℕ) (store : List ℕ) → n ≡ size → range_at store m n ≡ slice_chunk store size m
+range-is_run size m n store is = let wide : m * n + n - m * n ≡ size = omega (arith, is) in cc
 
-pub length-part : (size m n : ℕ) (store : List ℕ) → n ≡ size → m * size + size ≤ length store
-    → length (part_at store m n) ≡ size
-length-part size m n store is room =
-    ap length (part-is_run size m n store is)
+pub length-range : (size m n : ℕ) (store : List ℕ) → n ≡ size → m * size + size ≤ length store
+    → length (range_at store m n) ≡ size
+length-range size m n store is room =
+    ap length (range-is_run size m n store is)
     ∙ length-take-le size (drop (m * size) store) (omega (arith, length-drop (m * size) store, room))
 
 -- a block is written into a run of a store: the other runs are as before
@@ -80,10 +80,10 @@ pub record IsWritten (size m : ℕ) (store block after : List ℕ) : Type 0 wher
   pub own : slice_chunk after size m ≡ block
   pub others : (l : ℕ) → (l < m) ⊎ (m < l) → slice_chunk after size l ≡ slice_chunk store size l
 
-pub IsWritten-part : (size m n : ℕ) (store block : List ℕ) → n ≡ size → m * size + size ≤ length store
+pub IsWritten-range : (size m n : ℕ) (store block : List ℕ) → n ≡ size → m * size + size ≤ length store
     → length block ≡ size
-    → IsWritten size m store block (with_part store m n block)
-IsWritten-part size m n store block is room len =
+    → IsWritten size m store block (with_range store m n block)
+IsWritten-range size m n store block is room len =
     let from : m * n ≡ m * size = ap (λ (k : ℕ). m * k) is in
     record {
       own = chunk-same store block size m (m * n) _ from len room;
@@ -108,7 +108,7 @@ HasOpenBlocks-written s blocks levels j {m = m} {after = after} written is rest 
   ]
 ]
 
--- the place that a digest comes to is in its level
+-- the index of a digest that comes is in its level
 pub level_digest-below : (s : TreeSettingsFields) (blocks : List (List ℕ)) (i m : ℕ) → 0 < fan s → i < length blocks
     → i / fan s ^ m < length (blocks_up s blocks m)
 level_digest-below s blocks i m some below =
@@ -169,21 +169,21 @@ level_digest-root s blocks i levels store digest two below count h =
 -- a slot is within its block
 pub slot-room : (s : TreeSettingsFields) (q f w len m n : ℕ) (store : List ℕ) → f ≡ fan s → w ≡ slot_width s
     → n ≡ s.hash_block → len ≡ digest_len s → fan s * slot_width s ≤ s.hash_block
-    → m * s.hash_block + s.hash_block ≤ length store → q % f * w + len ≤ length (part_at store m n)
+    → m * s.hash_block + s.hash_block ≤ length store → q % f * w + len ≤ length (range_at store m n)
 slot-room s q f w len m n store ef ew en el fits room =
     let at : q % f * w ≡ q % fan s * slot_width s = cc in
     let low : q % fan s + 1 ≤ fan s = omega (arith, mod_below q (fan s) (fan-some s)) in
     let area = mul_le (q % fan s + 1) (fan s) (slot_width s) low in
-    omega (arith, at, area, fits, el, digest-slot s, length-part s.hash_block m n store en room)
+    omega (arith, at, area, fits, el, digest-slot s, length-range s.hash_block m n store en room)
 
 -- a digest put into its slot of a level's open block, once it has come there
 pub open_block_with-put : (s : TreeSettingsFields) (blocks : List (List ℕ)) (i m levels index f w n : ℕ)
     (store block digest : List ℕ) → f ≡ fan s → w ≡ slot_width s → n ≡ s.hash_block → fan s * slot_width s ≤ s.hash_block
     → i < length blocks → m < levels → index ≡ i / fan s ^ m → HasOpenBlocks s blocks m levels i store
-    → digest ≡ level_digest s blocks i m → block ≡ with_digest (part_at store m n) (index % f * w) digest
+    → digest ≡ level_digest s blocks i m → block ≡ with_digest (range_at store m n) (index % f * w) digest
     → block ≡ open_block_with s (digests_under s blocks m) (i / fan s ^ m)
 open_block_with-put s blocks i m levels index f w n store block digest ef ew en fits below inside place stands digest_is put =
-    let part = part-is_run s.hash_block m n store en ∙ stands m (omega arith) inside in
+    let stood = range-is_run s.hash_block m n store en ∙ stands m (omega arith) inside in
     let here = level_digest-below s blocks i m (fan-some s) below in
     let pushed = open-push s (blocks_up s blocks m) (i / fan s ^ m) digest fits here digest_is in
     cc
@@ -199,9 +199,9 @@ IsCarrying-first s blocks i levels store digest is stands = record {
   digest_is = is;
 }
 
--- at level 0 the place is the data block's number
-pub place-first : (i f : ℕ) → i ≡ i / f ^ 0
-place-first i f = omega (arith, ap (λ (n : ℕ). i / n) (pow-zero f))
+-- at level 0 the index is the data block's
+pub index-first : (i f : ℕ) → i ≡ i / f ^ 0
+index-first i f = omega (arith, ap (λ (n : ℕ). i / n) (pow-zero f))
 
 -- data blocks below one hash block of level 0 are below one of each level
 pub quotient-same : (f i j m : ℕ) → i / f ≡ j / f → i / f ^ m / f ≡ j / f ^ m / f
@@ -211,7 +211,7 @@ quotient-same f i j m same =
     div-div-eq-div-mul x (f ^ m) f ∙ ap (λ (n : ℕ). x / n) e ∙ sym (div-div-eq-div-mul x f (f ^ m)) in
     turn i ∙ ap (λ (n : ℕ). n / f ^ m) same ∙ sym (turn j)
 
--- of two places below one hash block the one of the earlier data block is not the later
+-- of two slots of one hash block the one of the earlier data block is not the later
 pub slots-order : (f i j m : ℕ) → 0 < f → i ≤ j → i / f ≡ j / f → i / f ^ m % f ≤ j / f ^ m % f
 slots-order f i j m some order same =
     let w = f ^ m in

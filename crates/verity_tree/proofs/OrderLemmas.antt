@@ -1,12 +1,12 @@
 -- The closing order has each block once.
 use Rattle.std.proofs.Common.{◌≡◌, ℕ, zero, suc, ◌+◌, ◌*◌, ◌/◌, ◌%◌, ◌^◌, ◌<◌, ◌≤◌, Bool, cond}
-use Rattle.std.proofs.Common.{leb, List, ◌∷◌, map, arith, ◌∙◌, ap}
+use Rattle.std.proofs.Common.{leb, List, ◌∷◌, arith, ◌∙◌, ap}
 use Rattle.std.proofs.Common.{ltb}
 use Rattle.std.proofs.lemmas.Bool.Decides.{nat_tests}
 use Rattle.std.proofs.lemmas.List.Sums.{sum_by-cons, sum_by-append}
 use Rattle.std.proofs.lemmas.Nat.{div-add-mod', mod_below, mod-mul-add}
 use Rattle.std.proofs.Math.Nat.{one-le-pow, mul-le-mul_right}
-use Rattle.std.specs.List.{filter, range_with_len}
+use Rattle.std.specs.List.{range_with_len}
 use Rattle.std.specs.Prelude.{◌==◌, ◌&&◌}
 use Rattle.verity_plan.specs.Plans.{level_count, level_size, IsTreeBlock}
 use Rattle.verity_tree.specs.ClosingOrder.{BlockIndex, block_index, closes, closing_with, closed_after, times, ClosesOnce}
@@ -14,28 +14,25 @@ use Rattle.verity_tree.specs.FirstDifferences.{closing_moment}
 use Rattle.verity_plan.proofs.CountLemmas.{mul-lt_div_ceil, mul_le}
 use Rattle.verity_plan.proofs.IndexLemmas.{quotient-below}
 use Rattle.verity_tree.proofs.ReachedLemmas.{next-slot}
-
--- the levels that pass a test, each with a block
-abbrev pub indices : (ℕ → ℕ) → (ℕ → Bool) → List ℕ → List BlockIndex
-indices f c levels = map (λ level. block_index level (f level)) (filter c levels)
+use Rattle.verity_tree.proofs.OrderSplit.{passing}
 
 -- one for a test that passes
 abbrev bit : Bool → ℕ
 bit b = cond b 1 0
 
-times-indices : (l j a : ℕ) (f : ℕ → ℕ) (c : ℕ → Bool) (levels : List ℕ)
-    → times l j (indices f c (a ∷ levels)) ≡ bit (c a && ((a == l) && (f a == j))) + times l j (indices f c levels)
-times-indices l j a f c levels =
+times-passing : (l j a : ℕ) (f : ℕ → ℕ) (c : ℕ → Bool) (levels : List ℕ)
+    → times l j (passing f c (a ∷ levels)) ≡ bit (c a && ((a == l) && (f a == j))) + times l j (passing f c levels)
+times-passing l j a f c levels =
     let more = sum_by-cons (λ (at : BlockIndex). bit ((at.level == l) && (at.index == j))) (block_index a (f a))
-    (indices f c levels) in
+    (passing f c levels) in
     grind (arith, nat_tests, more)
 
 -- of a run of levels, each with a block, the block of a level of the run is counted if that level passes
 times-run : (l j a k : ℕ) (f : ℕ → ℕ) (c : ℕ → Bool)
-    → times l j (indices f c (range_with_len a k)) ≡ bit ((leb a l && ltb l (a + k)) && (c l && (f l == j)))
+    → times l j (passing f c (range_with_len a k)) ≡ bit ((leb a l && ltb l (a + k)) && (c l && (f l == j)))
 times-run l j a zero f c = grind (arith, nat_tests)
 times-run l j a (suc k) f c =
-    grind (arith, nat_tests, times-indices l j a f c (range_with_len (a + 1) k), times-run l j (a + 1) k f c)
+    grind (arith, nat_tests, times-passing l j a f c (range_with_len (a + 1) k), times-run l j (a + 1) k f c)
 
 -- the block that closes is the one whose time it is
 pub closes-time : (fan n l j i : ℕ) → 0 < fan → i < n → j < level_size fan n l
@@ -54,7 +51,7 @@ closes-time fan n l j i pos below inside =
     let here : j ≡ i / w → j * w ≡ i / w * w = λ same. ap (λ (q : ℕ). q * w) same in
     grind (arith, nat_tests, mul-lt_div_ceil n w j wide inside)
 
--- after so many data blocks the tree's block of this place has closed
+-- after so many data blocks the tree's block of this index has closed
 abbrev has_closed : ℕ → ℕ → ℕ → ℕ → ℕ → Bool
 has_closed fan n l j i =
     (ltb l (level_count fan n) && ltb j (level_size fan n l)) && leb (closing_moment fan n (block_index l j)) i

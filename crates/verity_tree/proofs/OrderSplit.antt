@@ -22,6 +22,14 @@ use Rattle.verity_tree.proofs.ReachedLemmas.{quotient-stays}
 abbrev pub passing : (ℕ → ℕ) → (ℕ → Bool) → List ℕ → List BlockIndex
 passing index passes levels = map (λ level. block_index level (index level)) (filter passes levels)
 
+-- a run of levels that don't pass
+pub passing-none : (f : ℕ → ℕ) (c : ℕ → Bool) (a n : ℕ) → ((l : ℕ) → a ≤ l → l < a + n → c l ≡ false)
+    → passing f c (range_with_len a n) ≡ []
+passing-none f c a zero fail = refl
+passing-none f c a (suc n) fail =
+    rw (fail a (omega arith) (omega arith))
+    (passing-none f c (a + 1) n (λ l from to. fail l (omega (arith, from)) (omega (arith, to))))
+
 -- a test that the first numbers pass leaves them, and nothing after them if the others don't pass
 pub filter-front : (c : ℕ → Bool) (a m n : ℕ) → ((l : ℕ) → a ≤ l → l < a + m → c l ≡ true) → m ≤ n
     → (rest : List ℕ) × (filter c (range_with_len a n) ≡ range_with_len a m ++ rest)

@@ -40,7 +40,7 @@ use Rattle.verity_tree.proofs.OpenBlockLemmas.{length-hash}
 use Rattle.verity_tree.proofs.OrderSplit.{device_with-append}
 use Rattle.verity_tree.proofs.PartEnds.{join-all, join-none, part-all, part-none}
 use Rattle.verity_tree.proofs.PartOrder.{parts-once, range-more}
-use Rattle.verity_tree.proofs.JoinedLists.{length-pieces, piece}
+use Rattle.verity_tree.proofs.JoinedLists.{flat_map-same, length-pieces, piece}
 
 -- ---- calls in any order
 
@@ -129,22 +129,22 @@ part-written b p level part (Some block) memory fed more bytes device plan_is le
 
 -- the calls of a part, one after another
 pub record CallsPart (p : PlanFields) (level part : ℕ) (calls : List FeedCall) (b after : PartBuilder)
-    (room fed bytes : List ℕ) : Type 0 where
+    (memory_after fed bytes : List ℕ) : Type 0 where
   pub plan_is : after.plan ≡ p
   pub level_is : after.level ≡ level
   pub part_is : after.part ≡ part
-  pub is_fed : IsFedPart after room (fed ++ flat_map (λ call. call.taken) calls)
+  pub is_fed : IsFedPart after memory_after (fed ++ flat_map (λ call. call.taken) calls)
   pub order : handed_out_of_part p level part after.fed after.closed
       ≡ handed_out_of_part p level part b.fed b.closed ++ blocks_of calls
   pub right : bytes_of_part p level part bytes ≡ fed ++ flat_map (λ call. call.taken) calls
       → All (WritesRight p bytes) calls
 
 part-joined : (p : PlanFields) (level part : ℕ) (calls : List FeedCall) (b after : PartBuilder)
-    (memory room fed bytes : List ℕ)
-    → b.plan ≡ p → b.level ≡ level → b.part ≡ part → IsFedPart b memory fed → FeedsPartCalls b memory calls after room
-    → CallsPart p level part calls b after room fed bytes
+    (memory memory_after fed bytes : List ℕ)
+    → b.plan ≡ p → b.level ≡ level → b.part ≡ part → IsFedPart b memory fed
+    → FeedsPartCalls b memory calls after memory_after → CallsPart p level part calls b after memory_after fed bytes
 unfolding FeedsPartCalls
-part-joined p level part [] b after memory room fed bytes plan_is level_is part_is h calls = record {
+part-joined p level part [] b after memory memory_after fed bytes plan_is level_is part_is h calls = record {
   plan_is = rw calls.0 plan_is;
   level_is = rw calls.0 level_is;
   part_is = rw calls.0 part_is;
@@ -152,18 +152,18 @@ part-joined p level part [] b after memory room fed bytes plan_is level_is part_
   order = rw (calls.0, append-nil) refl;
   right = λ is. All-nil (WritesRight p bytes);
 }
-part-joined p level part (call ∷ rest) b after memory room fed bytes plan_is level_is part_is h calls =
+part-joined p level part (call ∷ rest) b after memory memory_after fed bytes plan_is level_is part_is h calls =
     let next = calls.0 in
     let step = calls.4 fed h in
     let taken = flat_map (λ (c : FeedCall). c.taken) rest in
     let goes_on =
-    part-joined p level part rest next after call.memory room (fed ++ call.taken) bytes (calls.1 ∙ plan_is)
+    part-joined p level part rest next after call.memory memory_after (fed ++ call.taken) bytes (calls.1 ∙ plan_is)
     (calls.2 ∙ level_is) (calls.3 ∙ part_is) step.is_fed calls.5 in
     record {
       plan_is = goes_on.plan_is;
       level_is = goes_on.level_is;
       part_is = goes_on.part_is;
-      is_fed = subst (IsFedPart after room) (append_assoc fed call.taken taken) goes_on.is_fed;
+      is_fed = subst (IsFedPart after memory_after) (append_assoc fed call.taken taken) goes_on.is_fed;
       order = goes_on.order
           ∙ ap (λ (xs : List BlockIndex). xs ++ blocks_of rest) (rw (plan_is, level_is, part_is) at step.order)
           ∙ append_assoc (handed_out_of_part p level part b.fed b.closed) (given call.hash_block) (blocks_of rest);
@@ -259,27 +259,27 @@ run-digests p level from bytes done taken rest start all = λ k low.
 
 -- the calls of a join, one after another
 pub record CallsJoin (p : PlanFields) (level : ℕ) (calls : List FeedCall) (b after : JoinBuilder)
-    (room bytes : List ℕ) : Type 0 where
+    (memory_after bytes : List ℕ) : Type 0 where
   pub plan_is : after.plan ≡ p
-  pub is_joined : IsJoined after room bytes
+  pub is_joined : IsJoined after memory_after bytes
   pub order : handed_out_of_join p level after.taken after.closed
       ≡ handed_out_of_join p level b.taken b.closed ++ blocks_of calls
   pub right : All (WritesRight p bytes) calls
 
 join-joined : (p : PlanFields) (level : ℕ) (calls : List FeedCall) (b after : JoinBuilder)
-    (memory room done bytes : List ℕ)
+    (memory memory_after done bytes : List ℕ)
     → b.plan ≡ p → b.level ≡ level → length done ≡ b.taken * digest_len p.settings → IsJoined b memory bytes
     → flat_map (λ part. digest_of_part p level part bytes) (range_with_len 0 (count_under p level))
     ≡ done ++ flat_map (λ call. call.taken) calls
-    → JoinsCalls b memory calls after room → CallsJoin p level calls b after room bytes
+    → JoinsCalls b memory calls after memory_after → CallsJoin p level calls b after memory_after bytes
 unfolding JoinsCalls
-join-joined p level [] b after memory room done bytes plan_is level_is start h all calls = record {
+join-joined p level [] b after memory memory_after done bytes plan_is level_is start h all calls = record {
   plan_is = rw calls.0 plan_is;
   is_joined = rw (calls.0, calls.1) h;
   order = rw (calls.0, append-nil) refl;
   right = All-nil (WritesRight p bytes);
 }
-join-joined p level (call ∷ rest) b after memory room done bytes plan_is level_is start h all calls =
+join-joined p level (call ∷ rest) b after memory memory_after done bytes plan_is level_is start h all calls =
     let next = calls.0 in
     let taken = flat_map (λ (c : FeedCall). c.taken) rest in
     let count = rw plan_is at calls.3 in
@@ -288,7 +288,8 @@ join-joined p level (call ∷ rest) b after memory room done bytes plan_is level
     let step = calls.4 bytes h digests in
     let longer : length (done ++ call.taken) ≡ next.taken * digest_len p.settings =
     length-append done call.taken ∙ omega (arith, start, count) in
-    let goes_on = join-joined p level rest next after call.memory room (done ++ call.taken) bytes (calls.1 ∙ plan_is)
+    let goes_on = join-joined p level rest next after call.memory memory_after (done ++ call.taken) bytes
+    (calls.1 ∙ plan_is)
     (calls.2 ∙ level_is) longer step.is_joined (all ∙ sym (append_assoc done call.taken taken)) calls.5 in
     record {
       plan_is = goes_on.plan_is;
@@ -299,14 +300,6 @@ join-joined p level (call ∷ rest) b after memory room done bytes plan_is level
       right = All-cons (WritesRight p bytes) call rest
           (λ device. join-written b p call.hash_block call.memory bytes device plan_is step.stands) goes_on.right;
     }
-
--- the same pieces, joined
-same-pieces : (f g : ℕ → List ℕ) (from n : ℕ) → ((m : ℕ) → m < from + n → f m ≡ g m)
-    → flat_map f (range_with_len from n) ≡ flat_map g (range_with_len from n)
-same-pieces f g from zero same = refl
-same-pieces f g from (suc n) same =
-    ap (λ (xs : List ℕ). xs ++ flat_map f (range_with_len (from + 1) n)) (same from (omega arith))
-    ∙ ap (λ (xs : List ℕ). g from ++ xs) (same-pieces f g (from + 1) n (λ m low. same m (omega (arith, low))))
 
 -- from the first to the last, they have handed out the join's blocks, and the end has answered the root hash
 pub record HasBuiltJoin (p : PlanFields) (level : ℕ) (bytes : List ℕ) (run : JoinInCalls) : Type 0 where
@@ -322,8 +315,8 @@ join-built p level bytes parts run planned digests built =
     let b = run.begun in
     let start : 0 ≡ b.taken * digest_len p.settings = rw built.none_taken (omega arith) in
     let all =
-    same-pieces (λ part. (parts part).digest) (λ part. digest_of_part p level part bytes) 0 (count_under p level)
-    (λ part low. digests part (omega (arith, low))) in
+    flat_map-same (λ part. (parts part).digest) (λ part. digest_of_part p level part bytes) 0 (count_under p level)
+    (λ part _ low. digests part (omega (arith, low))) in
     let done =
     join-joined p level run.calls b run.after run.memory run.memory_after [] bytes built.plan_is built.level_is
     start built.begins (sym (built.digests_are ∙ all)) built.joins in

@@ -1,4 +1,4 @@
--- A builder of a part between two calls: its memory, what it hands out, and its digest.
+-- A builder of a part between two calls: its memory, how many levels have closed, what it hands out, and its digest.
 use Rattle.std.proofs.Common.{◌≡◌, ℕ, zero, suc, ◌+◌, ◌-◌, ◌*◌, ◌/◌, ◌^◌, ◌<◌, ◌≤◌, Bool, true, false, List, [], ◌∷◌}
 use Rattle.std.proofs.Common.{◌++◌, get_or}
 use Rattle.std.proofs.Common.{arith, cond, drop, length, length-append, length-drop, map, refl, sym}

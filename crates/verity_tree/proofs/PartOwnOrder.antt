@@ -1,5 +1,5 @@
 -- The closing order of a part's own tree, in the whole tree.
-use Rattle.std.proofs.Common.{◌≡◌, ℕ, zero, suc, ◌+◌, ◌-◌, ◌*◌, ◌/◌, ◌%◌, ◌^◌, ◌<◌, ◌≤◌, Bool, true, false, List, []}
+use Rattle.std.proofs.Common.{◌≡◌, ℕ, zero, suc, ◌+◌, ◌-◌, ◌*◌, ◌/◌, ◌%◌, ◌^◌, ◌<◌, ◌≤◌, Bool, true, false, List}
 use Rattle.std.proofs.Common.{◌∷◌, ◌++◌}
 use Rattle.std.proofs.Common.{map, arith, refl, sym, ◌∙◌, ap, cond, inl, inr}
 use Rattle.std.proofs.lemmas.Bool.{cases_lt}
@@ -19,7 +19,7 @@ use Rattle.verity_tree.specs.ClosingOrder.{BlockIndex, block_index, blocks_befor
 use Rattle.verity_tree.specs.ClosingOrder.{first_closing, handed_out}
 use Rattle.verity_tree.specs.Parts.{HasPart, closed_in_part, first_block, handed_out_of_part, plan_of_part}
 use Rattle.verity_tree.proofs.LastByteLemmas.{last-below}
-use Rattle.verity_tree.proofs.OrderSplit.{passing}
+use Rattle.verity_tree.proofs.OrderSplit.{passing, passing-none}
 use Rattle.verity_tree.proofs.PlanOfPart.{has-part}
 
 -- a hash block of a part's own tree, in the whole tree
@@ -90,14 +90,6 @@ passing-same f g c d a (suc n) same =
     by_test false false is index rest = rest
     by_test true false is index rest = absurd cc
     by_test false true is index rest = absurd cc
-
--- a run of levels that don't pass
-passing-none : (f : ℕ → ℕ) (c : ℕ → Bool) (a n : ℕ) → ((l : ℕ) → a ≤ l → l < a + n → c l ≡ false)
-    → passing f c (range_with_len a n) ≡ []
-passing-none f c a zero fail = refl
-passing-none f c a (suc n) fail =
-    rw (fail a (omega arith) (omega arith))
-    (passing-none f c (a + 1) n (λ l from to. fail l (omega (arith, from)) (omega (arith, to))))
 
 -- levels after a run that don't pass
 passing-front : (f : ℕ → ℕ) (c : ℕ → Bool) (a n m : ℕ) → n ≤ m → ((l : ℕ) → a + n ≤ l → l < a + m → c l ≡ false)

@@ -1,13 +1,13 @@
 -- The check of a path, level by level, and chains of blocks that meet.
 use Rattle.std.proofs.Common.{◌≡◌, ℕ, suc, ◌+◌, ◌-◌, ◌*◌, ◌/◌, ◌%◌, ◌^◌, ◌<◌, ◌≤◌, false, List, take}
-use Rattle.std.proofs.Common.{drop, arith, sym, ◌∙◌, ap}
+use Rattle.std.proofs.Common.{drop, arith, sym, ap}
 use Rattle.std.proofs.Common.{◌≢◌, ◌⊎◌, zero, inl, inr}
 use Rattle.std.proofs.lemmas.Bool.{cases_Bool}
 use Rattle.std.proofs.lemmas.Bool.Decides.{nat_tests, not_from_Decides}
-use Rattle.std.proofs.Math.Nat.{pow-zero}
 use Rattle.std.proofs.lemmas.Slice.Eq.{bytes_eq-Decides}
 use Rattle.std.specs.Fork.{slice_chunk}
 use Rattle.std.specs.Str.{bytes_eq}
+use Rattle.verity_tree.proofs.OpenBlockSteps.{range-is_run}
 use Rattle.verity_tree.specs.Paths.{chain, digest_above}
 use Rattle.verity_plan.specs.Plans.{PlanFields}
 use Rattle.verity_plan.specs.PlanCounts.{level_count_of}
@@ -18,11 +18,6 @@ use Rattle.verity_tree.specs.Verdicts.{digest_in}
 pub chain-more : (s : TreeSettingsFields) (block path : List ℕ) (l : ℕ)
     → chain s block path (l + 1) ≡ slice_chunk path s.hash_block l
 chain-more s block path l = let e : l + 1 ≡ suc l = omega arith in ap (chain s block path) e
-
--- a range of the path is the block of a level
-pub range-block : (path : List ℕ) (l size all : ℕ) → size ≡ all
-    → take (l * size + size - l * size) (drop (l * size) path) ≡ slice_chunk path all l
-range-block path l size all e = grind arith
 
 -- below the top a digest in its slot
 pub digest_above-below : (p : PlanFields) (i : ℕ) (path root : List ℕ) (l : ℕ) → l < level_count_of p
@@ -42,11 +37,7 @@ pub read-is : (p : PlanFields) (i : ℕ) (path root : List ℕ) (l index levels 
     ≡ digest_above p i path root l
 read-is p i path root l index levels size f low levels_is size_is f_is index_is =
     let above = digest_above-below p i path root l (omega (arith, low, levels_is)) in
-    rw (range-block path l size p.settings.hash_block size_is, index_is, f_is) (sym above)
-
--- a number divided by a zeroth power
-pub div-pow-zero : (f i : ℕ) → i ≡ i / f ^ 0
-div-pow-zero f i = let one : i ≡ i / 1 = omega arith in one ∙ ap (λ (n : ℕ). i / n) (sym (pow-zero f))
+    rw (range-is_run p.settings.hash_block l size path size_is, index_is, f_is) (sym above)
 
 -- two lists of bytes that the test tells apart are two
 pub bytes_eq-false : (xs ys : List ℕ) → bytes_eq xs ys ≡ false → ¬ (xs ≡ ys)

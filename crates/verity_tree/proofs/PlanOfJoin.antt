@@ -18,10 +18,10 @@ use Rattle.verity_plan.proofs.CountLemmas.{IsLevelCount-level_count, IsLevelCoun
 use Rattle.verity_plan.proofs.CountLemmas.{div_ceil-mul, div_ceil-pos, le-div_ceil, mul_le}
 use Rattle.verity_plan.proofs.FanLemmas.{fan-some, fan-two, some_data}
 use Rattle.verity_plan.proofs.PlaceLemmas.{blocks_from-le, blocks_from-suc}
+use Rattle.verity_plan.proofs.PlanLemmas.{blocks-some}
 use Rattle.verity_tree.specs.Levels.{blocks_up, data_blocks, up}
 use Rattle.verity_tree.specs.Parts.{blocks_under}
 use Rattle.verity_tree.specs.Steps.Parts.{plan_of_join}
-use Rattle.verity_tree.proofs.DataBlockLemmas.{blocks-some}
 use Rattle.verity_tree.proofs.LevelLemmas.{length-cut}
 use Rattle.verity_tree.proofs.TreeLemmas.{length-blocks_up}
 

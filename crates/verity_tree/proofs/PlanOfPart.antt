@@ -1,12 +1,10 @@
 -- The plan of the tree above a part's data alone, and that it is smaller than the whole tree's.
 use Rattle.std.proofs.Common.{◌≡◌, ℕ, ◌+◌, ◌-◌, ◌*◌, ◌<◌, ◌≤◌, min, arith, sym, ◌∙◌, ap, inl, inr}
-use Rattle.std.proofs.Common.{refl, true, false}
+use Rattle.std.proofs.Common.{refl}
 use Rattle.std.proofs.lemmas.Bool.{cases_lt}
-use Rattle.std.proofs.lemmas.Bool.Decides.{nat_tests}
 use Rattle.std.proofs.Math.Nat.{mul-le-mul_right, mul-pos, one-le-pow}
 use Rattle.std.specs.Int.{div_ceil}
-use Rattle.std.specs.Prelude.{Ok, nat_eq, nat_le}
-use Rattle.verity_io.specs.Writing.{most_bytes}
+use Rattle.std.specs.Prelude.{Ok}
 use Rattle.verity_plan.specs.Plans.{IsPlan, PlanFields, blocks_from, checked_plan, end_place_of, level_count}
 use Rattle.verity_plan.specs.Plans.{plan_for_bytes}
 use Rattle.verity_plan.specs.PlanCounts.{level_count_of}
@@ -14,8 +12,7 @@ use Rattle.verity_plan.specs.Settings.{fan}
 use Rattle.verity_plan.proofs.CountLemmas.{div_ceil-le, div_ceil-mul, le-div_ceil, mul-lt_div_ceil, mul_le}
 use Rattle.verity_plan.proofs.FanLemmas.{fan-some, fan-two, some_data}
 use Rattle.verity_plan.proofs.PlaceLemmas.{blocks_from-fewer, blocks_from-more}
-use Rattle.verity_plan.proofs.PlanLemmas.{level_count-le, level_count-least}
-use Rattle.verity_tree.proofs.DataBlockLemmas.{blocks-some}
+use Rattle.verity_plan.proofs.PlanLemmas.{checked_plan-planned, level_count-le, level_count-least}
 use Rattle.verity_tree.specs.Parts.{HasPart, first_block, blocks_in_part, plan_of_part}
 
 -- a tree above fewer data blocks has no more hash blocks
@@ -28,16 +25,7 @@ blocks_from-le_all f few many two le =
       blocks_from-more f many 0 (level_count f few) (level_count f many) (level_count-le f few many two le),
     )
 
--- a plan that can be carried out is made
-pub checked_plan-planned : (p : PlanFields) → IsPlan p → checked_plan p ≡ Ok p
-checked_plan-planned p planned =
-    let none : nat_eq p.blocks 0 ≡ false = grind (arith, nat_tests, blocks-some p planned) in
-    let of_data : nat_le (p.blocks * p.settings.data_block) most_bytes ≡ true =
-    grind (arith, nat_tests, planned.data_most) in
-    let of_hash : nat_le (end_place_of p * p.settings.hash_block) most_bytes ≡ true =
-    grind (arith, nat_tests, planned.hash_most) in
-    rw (none, of_data, of_hash) refl
-
+-- a plan of bytes that can be carried out is made
 pub plan_for_bytes-planned : (p : PlanFields) → IsPlan p → p.base ≡ 0 → plan_for_bytes p.settings p.wanted 0 ≡ Ok p
 plan_for_bytes-planned p planned first =
     ap (λ (n : ℕ). checked_plan (record { settings = p.settings; blocks = n; wanted = p.wanted; base = 0 }))

@@ -1,16 +1,18 @@
--- The root, and what is left of it one level up.
+-- The root hash: it is the same from one level up; that of a file; and how long it is.
 use Rattle.std.proofs.Common.{◌≡◌, ℕ, zero, suc, ◌-◌, inl, inr, ◌^◌, ◌<◌, ◌≤◌, List, [], length, map, get_or, arith, ◌∙◌, ap}
-use Rattle.std.proofs.Common.{refl}
+use Rattle.std.proofs.Common.{Bool, false, refl, replicate, true}
 use Rattle.std.proofs.lemmas.Bool.{cases_lt}
-use Rattle.std.proofs.lemmas.List.{length-map, get_or-map}
+use Rattle.std.proofs.lemmas.List.{length-map, get_or-map, length-replicate}
 use Rattle.std.proofs.Math.Nat.{pow-zero, pow-suc, one-le-pow}
+use Rattle.std.specs.Prelude.{if◌then◌else◌, ◌==◌}
 use Rattle.std.specs.Int.{div_ceil}
-use Rattle.verity_plan.specs.Plans.{level_count}
-use Rattle.verity_plan.specs.Settings.{TreeSettingsFields, hash, fan}
-use Rattle.verity_tree.specs.Levels.{pack, blocks_up, root}
+use Rattle.verity_plan.specs.Plans.{level_count, plan_of_file}
+use Rattle.verity_plan.specs.Settings.{TreeSettingsFields, hash, fan, digest_len}
+use Rattle.verity_tree.specs.Levels.{pack, blocks_up, root, data_blocks, root_of_file}
 use Rattle.verity_tree.specs.Steps.PlainRoots.{digests_up, root_of_digests}
 use Rattle.verity_plan.proofs.CountLemmas.{IsLevelCount-level_count, IsLevelCount-same, div_ceil-pos, le-div_ceil}
 use Rattle.verity_plan.proofs.CountLemmas.{mul-lt_div_ceil}
+use Rattle.verity_tree.proofs.OpenBlockLemmas.{length-hash}
 use Rattle.verity_tree.proofs.TreeLemmas.{length-pack, length-blocks_up, height-level_count}
 
 -- one level more than above one level up
@@ -89,3 +91,22 @@ root-digests s blocks two some =
       map-hash-blocks_up s blocks l,
       length-map blocks (hash s),
     )
+
+-- a file that isn't empty has the root hash of its tree
+pub root_of_some : (s : TreeSettingsFields) (size : ℕ) (bytes : List ℕ) → 0 < size
+    → root s (data_blocks (plan_of_file s size) bytes) ≡ root_of_file s size bytes
+root_of_some s size bytes some = grind arith
+
+-- a root hash is as long as a digest, and so is that of an empty file
+pub length-root : (s : TreeSettingsFields) (blocks : List (List ℕ)) → length (root s blocks) ≡ digest_len s
+unfolding root
+length-root s blocks = length-hash s _
+
+pub length-root_of_file : (s : TreeSettingsFields) (size : ℕ) (bytes : List ℕ)
+    → length (root_of_file s size bytes) ≡ digest_len s
+length-root_of_file s size bytes = by_size (size == 0) _ (length-root s _)
+  where
+    by_size : (empty : Bool) (above : List ℕ) → length above ≡ digest_len s
+        → length (if empty then replicate (digest_len s) 0 else above) ≡ digest_len s
+    by_size true above long = length-replicate (digest_len s) 0
+    by_size false above long = long

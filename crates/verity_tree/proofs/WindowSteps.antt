@@ -24,7 +24,7 @@ use Rattle.verity_tree.specs.declared.window.WindowPlace.{WindowPlace}
 use Rattle.verity_tree.proofs.DataBlockLemmas.{level_digest-data}
 use Rattle.verity_tree.proofs.FirstBlockLemmas.{first_blocks-more, first_blocks-plan}
 use Rattle.verity_tree.proofs.LevelLemmas.{length-cut}
-use Rattle.verity_tree.proofs.OpenBlockSteps.{place-first}
+use Rattle.verity_tree.proofs.OpenBlockSteps.{index-first}
 use Rattle.verity_tree.proofs.OrderSplit.{closed_after-more, closes-none, closing-prefix}
 use Rattle.verity_tree.proofs.ReachedLemmas.{IsReached-zero}
 use Rattle.verity_tree.proofs.WindowLemmas.{placed-in-window, window-batch}
@@ -112,7 +112,7 @@ closing-none f n k some below stays =
     let more : k + 1 < n = omega (arith, below, apart) in
     let room : k % f + 1 < f = omega (arith, within, mod_below k f some) in
     closing-prefix f n k 0 (omega arith) (λ l low. absurd (omega (arith, low)))
-    (λ l high low. closes-none f n k 0 l some (IsReached-zero f k) (rw (← place-first k f) room) more high)
+    (λ l high low. closes-none f n k 0 l some (IsReached-zero f k) (rw (← index-first k f) room) more high)
 
 -- nor do several
 pub closed_after-none : (f n i m : ℕ) → 0 < f → i + m ≤ n → ((k : ℕ) → i ≤ k → k < i + m → ¬ EndsBlock f n k)

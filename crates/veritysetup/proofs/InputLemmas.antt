@@ -1,21 +1,12 @@
 -- What verify goes by is one plan and one root hash, or one reason to refuse, and its plan can be carried out.
-use Rattle.std.proofs.Common.{◌≡◌, ℕ, ◌+◌, ◌*◌, ◌<◌, ◌≤◌, Bool, true, false, cond, List, Option, Some, None, Ok}
-use Rattle.std.proofs.Common.{Err, arith, sym, subst, ◌∙◌, ap, refl, inl, inr}
-use Rattle.std.proofs.lemmas.Bool.{and_parts, cases_lt, leb-true}
-use Rattle.std.proofs.lemmas.Bool.Decides.{nat_tests}
-use Rattle.std.specs.Int.{div_ceil}
-use Rattle.std.specs.Prelude.{◌==◌}
+use Rattle.std.proofs.Common.{◌≡◌, ℕ, true, List, Some, None}
+use Rattle.std.proofs.Common.{Err, sym, subst, ◌∙◌, ap, refl}
 use Rattle.verity_format.specs.CheckedSuperblocks.{superblock_fault}
 use Rattle.verity_format.specs.Superblocks.{IsSuperblock, SuperblockFields}
 use Rattle.verity_format.specs.declared.super_fault.SuperFault.{SuperFault}
 use Rattle.verity_format.proofs.LawLemmas.{one-superblock, says-fault_none}
-use Rattle.verity_io.specs.Writing.{most_bytes}
-use Rattle.verity_plan.specs.Plans.{IsPlan, PlanFields, base_of, end_place_of, has_room, plan_at, plan_for_blocks}
-use Rattle.verity_plan.specs.Plans.{plan_from}
-use Rattle.verity_plan.specs.Settings.{IsValid, TreeSettingsFields}
-use Rattle.verity_plan.specs.declared.plan_fault.PlanFault.TheVariants.{NoData, TooLarge as NoRoom}
-use Rattle.verity_plan.proofs.CountLemmas.{div_ceil-le, le-div_ceil, mul_le}
-use Rattle.verity_plan.proofs.FanLemmas.{some_data}
+use Rattle.verity_plan.specs.Plans.{IsPlan, PlanFields, base_of, plan_at}
+use Rattle.verity_plan.proofs.PlanLemmas.{IsPlan-plan_from}
 use Rattle.veritysetup.specs.Faults.{side_of}
 use Rattle.veritysetup.specs.Options.Settings.{read_root}
 use Rattle.veritysetup.specs.Runs.GivenBack.{IsPlanIfGiven}
@@ -155,65 +146,13 @@ refused-there (Given settings) device other cause same this = this
 
 -- ---- the plan of a run
 
--- n whole blocks fill n blocks
-div_ceil-times : (n size : ℕ) → 0 < size → div_ceil (n * size) size ≡ n
-div_ceil-times n size some =
-    let k = div_ceil (n * size) size in
-    let low : k ≤ n = div_ceil-le (n * size) size n some (omega arith) in
-    let room : n * size ≤ k * size = le-div_ceil (n * size) size k some (omega arith) in
-    let high : n ≤ k = elim (cases_lt k n) [
-      | inr above ↦ above
-      | inl below ↦ absurd (omega (arith, mul_le (k + 1) n size (omega (arith, below)), room, some))
-    ] in
-    omega (arith, low, high)
-
--- a plan for whole blocks of valid settings can be carried out
-blocks-planned : (s : TreeSettingsFields) (blocks base : ℕ) (plan : PlanFields) → IsValid s
-    → plan_for_blocks s blocks base ≡ Ok plan → IsPlan plan
-blocks-planned s blocks base plan valid made = by_test (blocks == 0) refl made
-  where
-    wanted_plan : PlanFields
-    wanted_plan = record { settings = s; blocks = blocks; wanted = blocks * s.data_block; base = base }
-
-    by_room : (room : Bool) → has_room wanted_plan ≡ room → (blocks == 0) ≡ false
-        → cond room (Ok wanted_plan) (Err NoRoom) ≡ Ok plan → IsPlan plan
-    by_room false none some e = cc
-    by_room true room some e =
-        let same : wanted_plan ≡ plan = cc in
-        let filled : 0 < blocks = grind (arith, nat_tests, some) in
-        let both = and_parts _ _ room in
-        let of_data : blocks * s.data_block ≤ most_bytes = leb-true (blocks * s.data_block) most_bytes both.0 in
-        let of_hash : end_place_of wanted_plan * s.hash_block ≤ most_bytes =
-        leb-true (end_place_of wanted_plan * s.hash_block) most_bytes both.1 in
-        let one : 0 < s.data_block = some_data s valid in
-        subst IsPlan same (record {
-          valid = valid;
-          some = omega (arith, mul_le 1 blocks s.data_block (omega (arith, filled)), one);
-          blocks_are = sym (div_ceil-times blocks s.data_block one);
-          data_most = of_data;
-          hash_most = of_hash;
-        })
-
-    by_test : (none : Bool) → (blocks == 0) ≡ none
-        → cond none (Err NoData) (cond (has_room wanted_plan) (Ok wanted_plan) (Err NoRoom)) ≡ Ok plan → IsPlan plan
-    by_test true test e = cc
-    by_test false test e = by_room (has_room wanted_plan) refl test e
-
--- and so can the plan that verify goes by
+-- the plan that verify goes by can be carried out
 pub trusted-planned : (input : VerifyInput) (device : List ℕ) (plan : PlanFields) (digest : List ℕ) → IsPlanIfGiven input
     → Trusts input device plan digest → IsPlan plan
 trusted-planned (Given settings) device plan digest planned trusted = subst IsPlan (sym trusted.0) planned
 trusted-planned (Stored offset text) device plan digest planned trusted =
-    by_base (base_of offset true trusted.fields.tree.hash_block) trusted.plan_is
-  where
-    by_base : (base : Option ℕ) → plan_from trusted.fields.tree trusted.fields.blocks base ≡ Ok plan → IsPlan plan
-    by_base (Some base) made =
-        blocks-planned trusted.fields.tree trusted.fields.blocks base plan trusted.superblock.valid.tree made
-    by_base None made = by_test (trusted.fields.blocks == 0) made
-      where
-        by_test : (none : Bool) → cond none (Err NoData) (Err NoRoom) ≡ Ok plan → IsPlan plan
-        by_test true e = cc
-        by_test false e = cc
+    IsPlan-plan_from trusted.fields.tree trusted.fields.blocks (base_of offset true trusted.fields.tree.hash_block) plan
+    trusted.superblock.valid.tree trusted.plan_is
 
 -- ---- the fault of a run
 

@@ -1,4 +1,4 @@
-pub mod PrintingLemmas
+pub mod ReportLemmas
 pub mod SettingsLemmas
 pub mod FormattedLemmas
 pub mod InputLemmas
@@ -7,5 +7,5 @@ pub mod SameVerdictLemmas
 pub mod ResumedLemmas
 pub mod ChosenPlanLemmas
 pub mod ChoiceLemmas
-pub mod PrintedLemmas
+pub mod PrintedOptionLemmas
 pub mod LineLemmas

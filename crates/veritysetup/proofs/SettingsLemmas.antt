@@ -1,16 +1,12 @@
 -- Valid settings: their superblock is valid and ends before the hash area, and their plan is made of their parts.
 use Rattle.std.proofs.Common.{◌≡◌, ℕ, ◌+◌, ◌*◌, ◌≤◌, Bool, true, false, length, Some, None, Ok, nat_le, cond, arith}
-use Rattle.std.proofs.Common.{sym, ◌∙◌, ap, refl}
-use Rattle.std.proofs.lemmas.Bool.{le-leb}
-use Rattle.std.proofs.lemmas.Bool.Decides.{nat_tests}
+use Rattle.std.proofs.Common.{sym, ◌∙◌, ap}
 use Rattle.std.specs.Int.{div_ceil}
-use Rattle.std.specs.Prelude.{◌==◌}
 use Rattle.verity_io.specs.Writing.{most_bytes}
-use Rattle.verity_plan.specs.Plans.{IsPlan, PlanFields, base_of, checked_plan, end_place_of, plan_at, plan_from}
+use Rattle.verity_plan.specs.Plans.{IsPlan, PlanFields, base_of, checked_plan, plan_at, plan_from}
 use Rattle.verity_plan.proofs.CountLemmas.{le-div_ceil}
-use Rattle.verity_plan.proofs.PlanLemmas.{some_hash}
+use Rattle.verity_plan.proofs.PlanLemmas.{blocks-some, checked_plan-planned, some_hash}
 use Rattle.verity_format.specs.Superblocks.{IsValidSuperblock}
-use Rattle.verity_tree.proofs.DataBlockLemmas.{blocks-some}
 use Rattle.veritysetup.specs.Options.Settings.{PartsAgree, SettingsFields}
 use Rattle.veritysetup.specs.Runs.HashDevice.{superblock_for}
 
@@ -51,17 +47,6 @@ superblock-before s valid has =
 
 -- ---- the plan
 
--- a plan that can be carried out is made
-planned-checked : (p : PlanFields) → IsPlan p → checked_plan p ≡ Ok p
-planned-checked p planned =
-    let some = blocks-some p planned in
-    let filled : (p.blocks == 0) ≡ false = grind (arith, nat_tests, some) in
-    let of_data : nat_le (p.blocks * p.settings.data_block) most_bytes ≡ true =
-    le-leb (p.blocks * p.settings.data_block) most_bytes planned.data_most in
-    let of_hash : nat_le (end_place_of p * p.settings.hash_block) most_bytes ≡ true =
-    le-leb (end_place_of p * p.settings.hash_block) most_bytes planned.hash_most in
-    rw (filled, of_data, of_hash) refl
-
 -- a plan for whole blocks, by its parts
 plan_from-parts : (p : PlanFields) → p.wanted ≡ p.blocks * p.settings.data_block
     → plan_from p.settings p.blocks (Some p.base) ≡ checked_plan p
@@ -76,4 +61,4 @@ plan-made s valid =
     let p = s.plan in
     ap (plan_from p.settings p.blocks) valid.agree.based
     ∙ plan_from-parts p valid.agree.whole
-    ∙ planned-checked p valid.planned
+    ∙ checked_plan-planned p valid.planned

@@ -73,9 +73,9 @@ abbrev pub AddsDescriptor : OutputTask → List ℕ → Option (List ℕ) → Op
 AddsDescriptor task root before after = MatchBool task.wants_descriptor
     (Appends before after (descriptor_bytes (descriptor_of task.settings task.size root))) (Keeps before after)
 
--- only this many of its first bytes are added
-abbrev pub AddsPrefix : OutputTask → List ℕ → ℕ → Option (List ℕ) → Option (List ℕ) → Type 0
-AddsPrefix task root count before after = MatchBool task.wants_descriptor
+-- only this many of the descriptor's first bytes are added, fewer than all; it is wanted then
+abbrev pub AddsDescriptorPrefix : OutputTask → List ℕ → ℕ → Option (List ℕ) → Option (List ℕ) → Type 0
+AddsDescriptorPrefix task root count before after = MatchBool task.wants_descriptor
     ((count < length (descriptor_bytes (descriptor_of task.settings task.size root)))
     × Appends before after (take count (descriptor_bytes (descriptor_of task.settings task.size root)))) ⊥
 
@@ -84,7 +84,7 @@ abbrev pub WritesDescriptor : {X : Type 0} → OutputTask → List ℕ → Resul
     → Option (List ℕ) → Type 0
 WritesDescriptor task root (Ok done) before after = AddsDescriptor task root before after
 WritesDescriptor task root (Err (Digest fault)) before after = Keeps before after
-WritesDescriptor task root (Err (Descriptor count)) before after = AddsPrefix task root count before after
+WritesDescriptor task root (Err (Descriptor count)) before after = AddsDescriptorPrefix task root count before after
 WritesDescriptor task root (Err (DigestLine fault)) before after = AddsDescriptor task root before after
 
 -- the line for this root hash

@@ -1,8 +1,9 @@
-use Rattle.std.proofs.Common.{◌≡◌, ℕ, ◌*◌, ◌<◌, length, arith, ap, sym, ◌∙◌}
+use Rattle.std.proofs.Common.{◌≡◌, ℕ, ◌*◌, ◌<◌, length, arith, ap, sym, ◌∙◌, refl}
 use Rattle.verity_plan.specs.PlanCounts.{level_count_of}
 use Rattle.verity_plan.specs.Settings.{fan}
 use Rattle.verity_tree.proofs.ClosingLemmas.{closing-below}
-use Rattle.read_one_block.proofs.ReadLemmas.{closing-place, length-run, path-more, read-stored, run-within}
+use Rattle.verity_tree.proofs.OpenBlockSteps.{length-range}
+use Rattle.read_one_block.proofs.ReadLemmas.{closing-place, path-more, read-stored, run-within}
 use Rattle.read_one_block.proofs.image.read_path.Goals as goal
 
 pub start-at-requires : goal.start-at-requires
@@ -30,7 +31,7 @@ loop-level-preserved g c =
     let long : length path ≡ level_count_of p * size =
     c.loop-level.auto.path ∙ c.requires.path ∙ ap (λ (n : ℕ). level_count_of p * n) (sym c.hash_block-size.ensures) in
     let within = run-within path l (level_count_of p) size below long in
-    let run = length-run path l size within in
+    let run = length-range size l size path refl within in
     let len : length c.read_filled.new.buf ≡ size = c.read_filled.auto.buf ∙ run in
     record {
       quotient = here;

@@ -1,12 +1,12 @@
 -- The digest goes up level after level.
 use Rattle.std.proofs.Common.{◌≡◌, ℕ, ◌-◌, ◌*◌, arith, ap, sym, ◌∙◌}
+use Rattle.verity_plan.proofs.PlanLemmas.{blocks-some}
 use Rattle.verity_tree.specs.ClosingOrder.{blocks_before}
 use Rattle.verity_tree.specs.Levels.{data_blocks}
 use Rattle.verity_tree.specs.Steps.Feeding.{last_window, windows_before}
 use Rattle.verity_tree.specs.Windows.{window_blocks}
 use Rattle.verity_tree.proofs.AskingLemmas.{IsAsking-first}
 use Rattle.verity_tree.proofs.LastByteLemmas.{last-block}
-use Rattle.verity_tree.proofs.DataBlockLemmas.{blocks-some}
 use Rattle.verity_tree.proofs.LevelLemmas.{length-cut}
 use Rattle.verity_tree.proofs.WindowLemmas.{window-beside}
 use Rattle.verity_tree.proofs.closing.digest_below.Goals as goal

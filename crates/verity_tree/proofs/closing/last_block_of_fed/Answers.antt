@@ -2,7 +2,7 @@
 use Rattle.std.proofs.Common.{◌≡◌, ℕ, ◌+◌, ◌-◌, ◌*◌, ◌/◌, ◌^◌, ◌≤◌, List, length, arith, ap, sym, ◌∙◌}
 use Rattle.verity_plan.specs.Settings.{fan}
 use Rattle.verity_plan.specs.PlanCounts.{level_count_of}
-use Rattle.verity_plan.proofs.PlanLemmas.{levels_few}
+use Rattle.verity_plan.proofs.PlanLemmas.{blocks-some, levels_few}
 use Rattle.verity_tree.specs.ClosingOrder.{blocks_before}
 use Rattle.verity_tree.specs.Levels.{data_blocks}
 use Rattle.verity_tree.specs.Steps.Feeding.{HasFed, last_window, windows_before}
@@ -11,7 +11,6 @@ use Rattle.verity_tree.specs.TreeOnDevice.{tree_block}
 use Rattle.verity_tree.specs.Windows.{window_blocks}
 use Rattle.verity_tree.proofs.AskingLemmas.{HasFed-asked, above-level}
 use Rattle.verity_tree.proofs.LastByteLemmas.{last-block}
-use Rattle.verity_tree.proofs.DataBlockLemmas.{blocks-some}
 use Rattle.verity_tree.proofs.LevelLemmas.{length-cut}
 use Rattle.verity_tree.proofs.WindowLemmas.{window-beside}
 use Rattle.verity_tree.proofs.closing.last_block_of_fed.Goals as goal

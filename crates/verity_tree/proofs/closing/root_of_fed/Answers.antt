@@ -1,7 +1,7 @@
 -- The digest goes up through all levels.
 use Rattle.std.proofs.Common.{◌-◌, arith, ◌∙◌}
+use Rattle.verity_plan.proofs.PlanLemmas.{blocks-some}
 use Rattle.verity_tree.proofs.AskingLemmas.{HasFed-asked, above-top, root-above}
-use Rattle.verity_tree.proofs.DataBlockLemmas.{blocks-some}
 use Rattle.verity_tree.proofs.closing.root_of_fed.Goals as goal
 
 pub returns-clause-root : goal.returns-clause-root

@@ -6,8 +6,8 @@ use Rattle.std.proofs.lemmas.Bool.Decides.{nat_tests}
 use Rattle.std.proofs.Math.Nat.{zero-div, zero-mul}
 use Rattle.verity_plan.specs.PlanCounts.{level_count_of}
 use Rattle.verity_plan.proofs.FanLemmas.{digest_len_of-pos, fan-some}
+use Rattle.verity_plan.proofs.PlanLemmas.{blocks-some}
 use Rattle.verity_tree.specs.Steps.Parts.{HasDigests, JoinStands}
-use Rattle.verity_tree.proofs.DataBlockLemmas.{blocks-some}
 use Rattle.verity_tree.proofs.JoinLemmas.{HasDigests-front, JoinsOn-closes, JoinsOn-full, JoinsOn-none, JoinsSoFar}
 use Rattle.verity_tree.proofs.JoinLemmas.{JoinsSoFar-first, JoinsSoFar-more, next-taken, run-more, run-room}
 use Rattle.verity_tree.proofs.join_builder.join_until_closed.Goals as goal

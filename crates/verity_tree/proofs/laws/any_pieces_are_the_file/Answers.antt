@@ -1,4 +1,4 @@
-use Rattle.verity_tree.proofs.HandedOutLemmas.{pieces-joined}
+use Rattle.verity_tree.proofs.FileCalls.{pieces-joined}
 use Rattle.verity_tree.proofs.laws.any_pieces_are_the_file.Goals as goal
 
 pub returns : goal.returns

@@ -1,4 +1,4 @@
-use Rattle.verity_tree.proofs.HandedOutLemmas.{asked-joined}
+use Rattle.verity_tree.proofs.FileCalls.{asked-joined}
 use Rattle.verity_tree.proofs.laws.asking_between_pieces_changes_nothing.Goals as goal
 
 pub returns : goal.returns

@@ -9,7 +9,8 @@ use Rattle.std.proofs.lemmas.Slice.Eq.{bytes_eq-Decides}
 use Rattle.verity_tree.specs.Paths.{HoldsAt}
 use Rattle.verity_plan.specs.PlanCounts.{level_count_of}
 use Rattle.verity_plan.specs.Settings.{fan, hash}
-use Rattle.verity_tree.proofs.PathSteps.{bytes_eq-false, chain-more, digest_above-top, range-block, read-is}
+use Rattle.verity_tree.proofs.OpenBlockSteps.{range-is_run}
+use Rattle.verity_tree.proofs.PathSteps.{bytes_eq-false, chain-more, digest_above-top, read-is}
 use Rattle.verity_plan.proofs.PlanLemmas.{store_few}
 use Rattle.verity_plan.proofs.IndexLemmas.{quotient-next}
 use Rattle.verity_tree.proofs.path.check_block.Goals as goal
@@ -32,7 +33,7 @@ has_digest-requires c =
     omega (
       arith,
       digest-room s (c.loop-level.index % c.fan-fan.result) low c.fan-fan.ensures.fits,
-      ap length (range-block path l c.hash_block-size.result s.hash_block c.hash_block-size.ensures),
+      ap length (range-is_run s.hash_block l c.hash_block-size.result path c.hash_block-size.ensures),
       length-take-le s.hash_block (drop (l * s.hash_block) path) left,
     )
 
@@ -41,7 +42,7 @@ loop-level-preserved c =
     let p = c.args.plan.now in
     let path = c.args.path.now in
     let l = c.loop-level.level in
-    let above = range-block path l c.hash_block-size.result p.settings.hash_block c.hash_block-size.ensures in
+    let above = range-is_run p.settings.hash_block l c.hash_block-size.result path c.hash_block-size.ensures in
     let read = read-is p c.args.i path c.args.root.now _ _ _ _ _ c.loop-level-test.true c.levels-levels.ensures
     c.hash_block-size.ensures c.fan-fan.ensures.value c.loop-level.invariant.quotient in
     let equal = (bytes_eq-Decides c.loop-level.digest _).0 (sym c.has_digest.ensures ∙ c.if-not-has_digest.false) in

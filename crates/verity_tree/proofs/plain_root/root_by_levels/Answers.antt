@@ -7,9 +7,9 @@ use Rattle.verity_tree.specs.Levels.{cut, data_blocks}
 use Rattle.verity_tree.specs.Steps.PlainRoots.{root_of_digests}
 use Rattle.verity_plan.specs.Plans.{PlanFields, IsPlan}
 use Rattle.verity_plan.proofs.FanLemmas.{fan-two}
+use Rattle.verity_plan.proofs.PlanLemmas.{blocks-some}
 use Rattle.verity_tree.proofs.LevelLemmas.{length-cut}
 use Rattle.verity_tree.proofs.RootLemmas.{root-digests}
-use Rattle.verity_tree.proofs.DataBlockLemmas.{blocks-some}
 use Rattle.verity_tree.proofs.plain_root.root_by_levels.Goals as goal
 
 -- the digests are those of the plan's data blocks

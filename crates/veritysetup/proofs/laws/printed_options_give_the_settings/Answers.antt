@@ -14,7 +14,7 @@ use Rattle.veritysetup.specs.Texts.Reports.{no_uuid_text, report_text, uuid_text
 use Rattle.veritysetup.proofs.AcceptedLemmas.{root-back, superblock-back}
 use Rattle.veritysetup.proofs.ChoiceLemmas.{one-chosen}
 use Rattle.veritysetup.proofs.FormattedLemmas.{formatted-same}
-use Rattle.veritysetup.proofs.PrintedLemmas.{printed-back, verified-options}
+use Rattle.veritysetup.proofs.PrintedOptionLemmas.{printed-back, verified-options}
 use Rattle.veritysetup.proofs.ResumedLemmas.{begun-formatted, keeps-refl}
 use Rattle.veritysetup.proofs.SettingsLemmas.{AreValid}
 use Rattle.veritysetup.proofs.laws.printed_options_give_the_settings.Goals as goal

@@ -1,12 +1,8 @@
-use Rattle.std.proofs.Common.{rules, arith, refl, ◌≡◌, ◌∙◌, ◌<◌, ◌&&◌, ℕ, Bool, true, false, cond, Some, None, Result, Ok, Err, nat_lt, lt-ltb, ltb-true}
+use Rattle.std.proofs.Common.{arith, refl, ◌≡◌, ◌∙◌, ◌<◌, ◌&&◌, ℕ, Bool, true, false, cond, Some, None, Result, Ok, Err, nat_lt, lt-ltb, ltb-true}
 use Rattle.std.specs.Result.{OkIff, result_ok}
-use Rattle.std.specs.Str.{all_ascii_digits}
-use Rattle.std.proofs.lemmas.Str.Parse.{IsNumeralModel, numerals_by_weight, parse_plain, tells_all_ascii_digits}
-use Rattle.command_line.specs.Options.{number}
+use Rattle.std.proofs.lemmas.Str.Parse.{parse_plain}
 use Rattle.command_line.proofs.options.numbers.read_number.Goals as goal
-
-digits_by_weight : IsNumeralModel (λ ds. all_ascii_digits ds ≡ true) number
-digits_by_weight = numerals_by_weight _ tells_all_ascii_digits number (search rules)
+use Rattle.command_line.proofs.Numerals.{numerals}
 
 -- a value if three tests hold, and otherwise none
 by_tests : {E : Type 0} (a : Bool) (n m k : ℕ) (r : Result ℕ E) → OkIff r ((a ≡ true) × (0 < n) × (m < k)) m
@@ -22,5 +18,5 @@ by_tests true n m k (Err e) h = go (nat_lt 0 n) (nat_lt m k) refl refl
 
 pub returns : goal.returns
 returns c =
-    let plain = parse_plain digits_by_weight 64 c.args.text.now _ c.parse.ensures.value.0 (λ e. let b = c.if-starts_with.ensures.byte (omega arith) (omega arith) (λ w o h. h) in cc (rw e at b)) in
+    let plain = parse_plain numerals 64 c.args.text.now _ c.parse.ensures.value.0 (λ e. let b = c.if-starts_with.ensures.byte (omega arith) (omega arith) (λ w o h. h) in cc (rw e at b)) in
     c.ok.ensures.value ∙ by_tests _ _ _ _ _ plain

@@ -1,6 +1,7 @@
 use Rattle.std.proofs.Common.{◌∙◌}
 use Rattle.verity_plan.proofs.PlanLemmas.{planned_is}
-use Rattle.fsverity.proofs.DigestLemmas.{ends_short, fails_within, root_of_some, tree_of_some}
+use Rattle.verity_tree.proofs.RootLemmas.{root_of_some}
+use Rattle.fsverity.proofs.DigestLemmas.{ends_short, fails_within, tree_of_some}
 use Rattle.fsverity.proofs.runs.file_digest.root_of_source.Goals as goal
 
 pub returns-in-Ok-build-clause-bytes : goal.returns-in-Ok-build-clause-bytes

@@ -1,7 +1,6 @@
 -- The digest of a part: of its data block, or of its top hash block.
-use Rattle.std.proofs.Common.{◌≡◌, ℕ, ◌+◌, ◌-◌, ◌*◌, ◌<◌, ◌≤◌, List, length, take, drop, arith, refl, subst, sym, ◌∙◌}
+use Rattle.std.proofs.Common.{◌≡◌, ℕ, ◌-◌, ◌*◌, ◌<◌, ◌≤◌, List, length, arith, refl, subst, sym, ◌∙◌}
 use Rattle.std.proofs.Common.{ap}
-use Rattle.std.specs.Fork.{slice_chunk}
 use Rattle.verity_plan.specs.Plans.{PlanFields}
 use Rattle.verity_plan.specs.PlanCounts.{level_count_of}
 use Rattle.verity_plan.specs.Settings.{hash}
@@ -11,18 +10,12 @@ use Rattle.verity_tree.specs.Steps.Feeding.{HasFed}
 use Rattle.verity_tree.specs.Steps.Parts.{PartStands}
 use Rattle.verity_tree.proofs.FeedingLemmas.{joined}
 use Rattle.verity_tree.proofs.OpenBlockLemmas.{hash-by, length-hash}
+use Rattle.verity_tree.proofs.OpenBlockSteps.{range-is_run}
 use Rattle.verity_tree.proofs.PartFeeding.{IsFedPart-parted, most_closed-le, part-root, part-top}
 use Rattle.verity_tree.proofs.PartSteps.{part-handing-out, part-nothing-out}
 use Rattle.verity_tree.proofs.PlanOfPart.{has-part}
 use Rattle.verity_tree.proofs.part_builder.PartBuilder.end.Goals as goal
 use Rattle.verity_tree.proofs.part_builder.PartBuilder.end.Goals.{After-split_at_mut-opened}
-
--- the range of the top level's hash block
-top-range : (opened : List ℕ) (top size block : ℕ) → size ≡ block
-    → take (top * size + size - top * size) (drop (top * size) opened) ≡ slice_chunk opened block top
-top-range opened top size block is =
-    let wide : top * block + block - top * block ≡ block = omega arith in
-    rw (is, wide) refl
 
 -- the length of the open blocks, as the code counts it
 area : (c : After-split_at_mut-opened)
@@ -153,8 +146,8 @@ returns-clause-digest c = λ fed h all is.
     c.split_at_mut-opened.result.1.now)
     (all_closed at) (stands at fed h)) in
     hash-by _ _ _ _ same c.hash.ensures
-    ∙ ap (hash s) (top-range c.split_at_mut-opened.result.0.now
-    (b.level - 1) c.hash_block-size.result s.hash_block size)
+    ∙ ap (hash s) (range-is_run s.hash_block (b.level - 1) c.hash_block-size.result
+    c.split_at_mut-opened.result.0.now size)
     ∙ part-top b.plan b.level b.part fed all c.split_at_mut-opened.result.0.now c.in-Ok.ensures.planned
     c.in-Ok.ensures.part some
     (whole at fed h) out is

@@ -1,4 +1,4 @@
-use Rattle.veritysetup.proofs.PrintingLemmas.{PrintsReport-grows}
+use Rattle.veritysetup.proofs.ReportLemmas.{PrintsReport-grows}
 use Rattle.veritysetup.proofs.program.formatted_files.format_opened.Goals as goal
 
 pub returns-clause-grows : goal.returns-clause-grows

@@ -3,17 +3,17 @@ use verity_io::{Failed, MemorySource, Source};
 
 /// Bytes in memory, of which each read gives at most a few.
 #[derive(Drop)]
-pub struct Pieces<'a> {
+pub struct ShortReads<'a> {
     bytes: MemorySource<'a>,
-    piece: usize,
+    most: usize,
 }
 
-impl<'a> Pieces<'a> {
-    /// A source of these bytes that gives this many at a time.
-    pub fn new(bytes: &'a [u8], piece: usize) -> Self {
-        Pieces {
+impl<'a> ShortReads<'a> {
+    /// A source of these bytes of which each read gives this many at most.
+    pub fn new(bytes: &'a [u8], most: usize) -> Self {
+        ShortReads {
             bytes: MemorySource::new(bytes),
-            piece,
+            most,
         }
     }
 
@@ -23,7 +23,7 @@ impl<'a> Pieces<'a> {
     }
 }
 
-impl<'a> Source for Pieces<'a> {
+impl<'a> Source for ShortReads<'a> {
     ghost use Rattle.std.specs.Prelude.{[]};
 
     // What it gives is tested, not proved.
@@ -34,7 +34,7 @@ impl<'a> Source for Pieces<'a> {
     ghost failures = { λ _. 0 };
 
     fn read(&mut self, buf: &mut [u8]) -> Result<usize, Failed> {
-        let count = buf.len().min(self.piece);
+        let count = buf.len().min(self.most);
         self.bytes.read(&mut buf[..count])
     }
 }

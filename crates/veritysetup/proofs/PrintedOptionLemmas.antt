@@ -1,23 +1,23 @@
 -- What a report prints, given again as options, gives the same settings.
 use Rattle.std.proofs.Common.{◌≡◌, ℕ, ◌+◌, ◌*◌, ◌/◌, ◌%◌, ◌^◌, ◌<◌, ◌≤◌, ◌&&◌, Bool, true, false, not, cond, List, []}
-use Rattle.std.proofs.Common.{◌∷◌, length, take, drop, Option, Some, None, Ok, Err, nat_le, nat_lt, rules, arith}
+use Rattle.std.proofs.Common.{◌∷◌, length, take, drop, Option, Some, None, Ok, Err, nat_le, nat_lt, arith}
 use Rattle.std.proofs.Common.{◌⊎◌, sym, subst, ◌∙◌, ap, refl, inl, inr, lt-ltb}
 use Rattle.std.proofs.lemmas.Bool.{and_parts, false_from_ne_true, le-leb, leb-true}
 use Rattle.std.proofs.lemmas.Bool.Decides.{nat_tests}
 use Rattle.std.proofs.lemmas.Fmt.{decimal_nonempty, digits_decimal, digits_value-decimal}
 use Rattle.std.proofs.lemmas.List.{get_or_default}
 use Rattle.std.proofs.lemmas.Slice.Eq.{bytes_eq-Decides}
-use Rattle.std.proofs.lemmas.Str.Parse.{IsNumeralModel, numerals_by_weight, tells_all_ascii_digits}
 use Rattle.std.specs.Fmt.{decimal}
 use Rattle.std.specs.Int.{is_power_of_two}
 use Rattle.std.proofs.Math.Nat.{mul_comm}
 use Rattle.std.specs.Prelude.{◌==◌, codes, ok_or, option_map, unwrap_or}
 use Rattle.std.specs.Result.{result_ok}
-use Rattle.std.specs.Str.{all_ascii_digits, bytes_eq}
+use Rattle.std.specs.Str.{bytes_eq}
 use Rattle.hex.specs.Hex.{IsBytes, decode_of, encode_lower, lower_digits}
 use Rattle.hex.proofs.HexLemmas.{decode_of-encode_lower, length-encode_with}
 use Rattle.uuid.proofs.RoundTrips.{parses_hyphenated}
 use Rattle.command_line.specs.Options.{algorithm_or_default, default_block_size, number, number_of}
+use Rattle.command_line.proofs.Numerals.{numerals}
 use Rattle.verity_format.proofs.NameLemmas.{named-back, numbered-back}
 use Rattle.verity_hash.specs.declared.algorithm.Algorithm.{Algorithm}
 use Rattle.verity_hash.specs.declared.salting.SaltRule.{SaltRule}
@@ -52,9 +52,6 @@ use Rattle.veritysetup.proofs.ChosenPlanLemmas.{accepted_plan-is, plan_is}
 use Rattle.veritysetup.proofs.SettingsLemmas.{AreValid, plan-made}
 
 -- ---- numbers
-
-numerals : IsNumeralModel (λ digits. all_ascii_digits digits ≡ true) number
-numerals = numerals_by_weight _ tells_all_ascii_digits number (search rules)
 
 number-back : (n : ℕ) → n < 2 ^ 64 → number_of (decimal n) ≡ Some n
 number-back n small =
