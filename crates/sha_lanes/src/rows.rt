@@ -1,4 +1,5 @@
-//! Rows of bytes, filled with pieces of a message; where the parts begin; and groups of blocks inside a piece.
+//! Rows of bytes, filled with pieces of a message; where the parts begin; groups of blocks inside a piece; and bytes
+//! that are all zeros.
 ghost use Rattle.std.specs.Prelude.{◌≡◌, ℕ, ◌+◌, ◌-◌, ◌*◌, ◌<◌, ◌≤◌, ◌^◌, ◌++◌, List, length, slice_index, take, drop};
 ghost use Rattle.std.specs.Prelude.{◌↔◌, ◌⊎◌, IfSome, IsSome, IsTrue, replicate};
 ghost use Rattle.sha_lanes.specs.Lanes.{HoldsFrom, LiesIn};

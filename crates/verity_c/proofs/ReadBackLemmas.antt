@@ -8,7 +8,7 @@ use Rattle.std.specs.Prelude.{◌==◌}
 use Rattle.verity_hash.specs.Hashing.{with_zeros}
 use Rattle.verity_hash.specs.declared.algorithm.Algorithm.{Algorithm}
 use Rattle.verity_hash.specs.declared.algorithm.Algorithm.TheVariants.{Sha1, Sha224, Sha256, Sha384, Sha512}
-use Rattle.verity_format.proofs.LawLemmas.{one-superblock, says-fault_none}
+use Rattle.verity_format.proofs.SuperblockLemmas.{one-superblock, says-fault_none}
 use Rattle.verity_format.proofs.NameLemmas.{chosen, numbered-is}
 use Rattle.verity_format.proofs.TextLemmas.{length-superblock_bytes, text_says}
 use Rattle.verity_format.specs.Superblocks.{IsValidSuperblock, SuperblockFields, superblock_bytes}

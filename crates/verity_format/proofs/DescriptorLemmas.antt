@@ -11,7 +11,7 @@ use Rattle.verity_hash.specs.declared.algorithm.Algorithm.TheVariants.{Sha256, S
 use Rattle.verity_plan.specs.Settings.{TreeSettingsFields, is_of_fsverity, log2}
 use Rattle.verity_plan.proofs.FanLemmas.{block_power, digest_len_of-most, log2-is, some_data}
 use Rattle.verity_plan.proofs.FitLemmas.{power_of_two-is}
-use Rattle.verity_format.proofs.LawLemmas.{tree-same}
+use Rattle.verity_format.proofs.SuperblockLemmas.{tree-same}
 use Rattle.verity_format.specs.Descriptors.{DescriptorFields, IsValidDescriptor, algorithm_number, descriptor_bytes}
 
 -- what stands before the size

@@ -2,6 +2,6 @@ pub mod FieldLemmas
 pub mod NameLemmas
 pub mod ReadLemmas
 pub mod TextLemmas
-pub mod LawLemmas
+pub mod SuperblockLemmas
 pub mod PadLemmas
 pub mod DescriptorLemmas

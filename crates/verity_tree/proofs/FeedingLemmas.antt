@@ -13,7 +13,7 @@ use Rattle.verity_tree.specs.Steps.Feeding.{FeedsOn, HasFed, IsHandingOut, Stand
 use Rattle.verity_tree.specs.declared.file_builder.FileBuilder.{FileBuilder}
 use Rattle.verity_tree.specs.declared.tree_builder.HashBlock.{HashBlock}
 use Rattle.verity_tree.specs.declared.tree_builder.TreeBuilder.{TreeBuilder}
-use Rattle.verity_tree.proofs.OnePassLemmas.{HasFed-zeros}
+use Rattle.verity_tree.proofs.WindowSteps.{HasFed-zeros}
 
 -- memory that begins with zeros for the open blocks, to which nothing was fed
 pub HasFed-none : (s : TreeSettingsFields) (levels n : ℕ) (zeros rest : List ℕ) → n ≡ levels * s.hash_block

@@ -17,8 +17,7 @@ use Rattle.verity_plan.proofs.FanLemmas.{fan-some, some_data}
 use Rattle.verity_tree.specs.Levels.{block_at, blocks_up, cut, data_blocks, hash_block_of, pack}
 use Rattle.verity_tree.specs.Steps.Feeding.{first_blocks}
 use Rattle.verity_tree.specs.Steps.OpenBlocks.{HasOpenBlocks, digests_under, open_block}
-use Rattle.verity_tree.proofs.LevelLemmas.{length-cut, run-of_front}
-use Rattle.verity_tree.proofs.PrefixLemmas.{get_or-pack}
+use Rattle.verity_tree.proofs.LevelLemmas.{get_or-pack, length-cut, run-of_front}
 use Rattle.verity_tree.proofs.TreeLemmas.{length-blocks_up, length-pack}
 
 -- the hash blocks above whole groups of digests are those of these groups alone

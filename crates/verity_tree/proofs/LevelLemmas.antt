@@ -1,9 +1,9 @@
--- Runs of lists, and the digests of data blocks and hash blocks.
-use Rattle.std.proofs.Common.{◌≡◌, ℕ, ◌+◌, ◌-◌, ◌*◌, List, [], ◌∷◌, ◌++◌, take, drop, map, min, length, arith, sym, ◌∙◌}
-use Rattle.std.proofs.Common.{ap, length-drop}
+-- Runs of lists, and data blocks and hash blocks, with their digests.
+use Rattle.std.proofs.Common.{◌≡◌, ℕ, ◌+◌, ◌-◌, ◌*◌, ◌<◌, List, [], ◌∷◌, ◌++◌, take, drop, map, min, length, arith, sym}
+use Rattle.std.proofs.Common.{◌∙◌, ap, get_or, length-drop}
 use Rattle.std.proofs.lemmas.List.{drop-take, take_min}
 use Rattle.std.proofs.lemmas.Simd.{map-map}
-use Rattle.std.proofs.lemmas.List.FromFn.{map-range_with_len_more, length-map-range_with_len}
+use Rattle.std.proofs.lemmas.List.FromFn.{get_or-map-range_with_len, map-range_with_len_more, length-map-range_with_len}
 use Rattle.std.specs.List.{range_with_len}
 use Rattle.std.specs.Fork.{slice_chunk}
 use Rattle.std.specs.Int.{div_ceil}
@@ -18,6 +18,14 @@ unfolding pack
 map-hash-pack s digests =
     map-map (hash s) (λ j. hash_block_of s (slice_chunk digests (fan s) j))
     (range_with_len 0 (div_ceil (length digests) (fan s)))
+
+-- block j of digests that are packed
+pub get_or-pack : (s : TreeSettingsFields) (digests : List (List ℕ)) (j : ℕ) → j < div_ceil (length digests) (fan s)
+    → get_or (pack s digests) j [] ≡ hash_block_of s (slice_chunk digests (fan s) j)
+unfolding pack
+get_or-pack s digests j h =
+    get_or-map-range_with_len (λ m. hash_block_of s (slice_chunk digests (fan s) m)) 0
+    (div_ceil (length digests) (fan s)) j j [] h (omega arith)
 
 -- a range of a slice is a run
 pub take-run : {A : Type 0} (xs : List A) (j size count all : ℕ) → size ≡ all → count ≡ min size (length xs - j * size)

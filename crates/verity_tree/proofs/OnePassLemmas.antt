@@ -2,19 +2,19 @@
 use Rattle.std.proofs.Common.{List, [], ap, append_assoc, arith, drop, inl, inr, length, length-drop, refl}
 use Rattle.std.proofs.Common.{replicate, sym, take, ℕ}
 use Rattle.std.proofs.Common.{◌*◌, ◌%◌, ◌++◌, ◌+◌, ◌-◌, ◌/◌, ◌<◌, ◌^◌, ◌∙◌, ◌∷◌, ◌≡◌, ◌≤◌}
-use Rattle.std.proofs.lemmas.List.{append-nil, drop-replicate, drop_all, length-take, length-take-le, take-replicate, take-take, take_all}
+use Rattle.std.proofs.lemmas.List.{append-nil, drop_all, length-take, length-take-le, take-take, take_all}
 use Rattle.std.proofs.lemmas.Nat.{div-add-mod'}
-use Rattle.std.proofs.Math.Nat.{div-eq_of_lt-le, mul-div_cancel, pow-zero, zero-div, zero-mod, zero-mul}
-use Rattle.std.proofs.Math.Seq.{drop-nil, take-add}
+use Rattle.std.proofs.Math.Nat.{div-eq_of_lt-le, mul-div_cancel, pow-zero}
+use Rattle.std.proofs.Math.Seq.{take-add}
 use Rattle.std.specs.Fork.{slice_chunk}
 use Rattle.verity_plan.specs.Plans.{IsPlan, PlanFields}
 use Rattle.verity_plan.specs.PlanCounts.{level_count_of}
 use Rattle.verity_plan.specs.Settings.{IsValid, TreeSettingsFields, fan, hash}
-use Rattle.verity_plan.proofs.FanLemmas.{fan-some, fan-two, some_data}
+use Rattle.verity_plan.proofs.FanLemmas.{fan-two, some_data}
 use Rattle.verity_tree.specs.ClosingOrder.{blocks_before, closed_after, handed_out, ComesNext, block_index, first_closing}
 use Rattle.verity_tree.specs.Levels.{cut, data_blocks, root}
-use Rattle.verity_tree.specs.Steps.Feeding.{EndsWindow, HasFed, IsHandingOut, TakesMore, first_blocks, windows_before}
-use Rattle.verity_tree.specs.Steps.OpenBlocks.{digests_under, HasClosed, HasOpenBlocks}
+use Rattle.verity_tree.specs.Steps.Feeding.{EndsWindow, HasFed, IsHandingOut, TakesMore, windows_before}
+use Rattle.verity_tree.specs.Steps.OpenBlocks.{HasClosed}
 use Rattle.verity_tree.specs.TreeOnDevice.{tree_block}
 use Rattle.verity_tree.specs.Windows.{window_blocks, window_length}
 use Rattle.verity_tree.proofs.ClimbLemmas.{blocks-most}
@@ -26,7 +26,7 @@ use Rattle.verity_tree.proofs.WindowSteps.{HasFed-filled, closed_after-placed, w
 use Rattle.verity_tree.proofs.WindowLemmas.{placed-in-window}
 use Rattle.std.proofs.lemmas.List.Elements.{Contains-append_left, Contains-append_right}
 use Rattle.std.specs.Prelude.{Bool, true, false, Some, None, if◌then◌else◌}
-use Rattle.verity_plan.proofs.CountLemmas.{le-div_ceil, mul_le}
+use Rattle.verity_plan.proofs.CountLemmas.{le-div_ceil}
 use Rattle.verity_plan.proofs.PlanLemmas.{blocks-some}
 use Rattle.verity_tree.proofs.DataBlockLemmas.{HasRead-none, data-next}
 use Rattle.std.proofs.lemmas.Bool.{cases_lt}
@@ -40,38 +40,11 @@ use Rattle.verity_tree.specs.Steps.Closing.{ClosesWith}
 use Rattle.verity_tree.specs.Steps.DataBlocks.{StopsInBlock, side_of as block_side}
 use Rattle.verity_tree.specs.declared.pass.pass_fault.BlockFault.{BlockFault}
 use Rattle.verity_tree.specs.declared.pass.pass_fault.BlockFault.TheVariants.{Short, Failed}
-use Rattle.verity_tree.proofs.OpenBlockSteps.{IsCarrying-first, hash_block_of-none, level_digest-root}
+use Rattle.verity_tree.proofs.OpenBlockSteps.{IsCarrying-first, level_digest-root}
 use Rattle.verity_tree.specs.Steps.OnClosed.{stop_side}
 use Rattle.verity_tree.specs.Steps.OnClosed.{Effects}
 use Rattle.verity_tree.specs.Steps.OnePass.{StopsFor}
 use Rattle.verity_tree.specs.declared.pass.pass_fault.Stop.{Stop}
-
--- a store of zeros has no slots
-pub HasOpenBlocks-zeros : (s : TreeSettingsFields) (blocks : List (List ℕ)) (levels len : ℕ) (store : List ℕ)
-    → 0 < fan s
-    → store ≡ replicate len 0
-    → levels * s.hash_block ≤ len → HasOpenBlocks s blocks 0 levels 0 store
-HasOpenBlocks-zeros s blocks levels len store some zeros room = λ l from to.
-    let f = fan s in
-    let size = s.hash_block in
-    let step : l + 1 ≤ levels = omega (arith, to) in
-    let fits : size ≤ len - l * size = omega (arith, room, mul_le (l + 1) levels size step) in
-    let run = drop-replicate {X = ℕ} (l * size) len 0 in
-    let front = take-replicate {X = ℕ} size (len - l * size) 0 fits in
-    let none = hash_block_of-none s (0 / f * f) (digests_under s blocks l) in
-    let place = zero-div (f ^ l) in
-    let start = zero-mod f in
-    cc
-
--- nothing was fed to them
-pub HasFed-zeros : (s : TreeSettingsFields) (levels len : ℕ) (opened window : List ℕ) → opened ≡ replicate len 0
-    → levels * s.hash_block ≤ len → HasFed s levels [] opened window
-HasFed-zeros s levels len opened window zeros room =
-    let start : windows_before s 0 * window_blocks s ≡ 0 = simp (zero-div, zero-mul) in
-    record {
-      stands = rw start (HasOpenBlocks-zeros s (first_blocks s 0 []) levels len opened (fan-some s) zeros room);
-      holds = rw drop-nil refl;
-    }
 
 -- the data blocks of a plan are those of the bytes that it wants
 pub data_blocks-front : (p : PlanFields) (bytes : List ℕ) → data_blocks p (take p.wanted bytes) ≡ data_blocks p bytes

@@ -19,7 +19,7 @@ use Rattle.verity_hash.proofs.HashLemmas.{length-salted_hash}
 use Rattle.verity_plan.specs.Settings.{TreeSettingsFields, hash, fan, slot, slot_width, digest_len}
 use Rattle.verity_tree.specs.Levels.{hash_block_of, blocks_up}
 use Rattle.verity_tree.specs.Steps.OpenBlocks.{digests_under, open_block}
-use Rattle.verity_tree.proofs.PrefixLemmas.{get_or-pack}
+use Rattle.verity_tree.proofs.LevelLemmas.{get_or-pack}
 
 pub length-hash : (s : TreeSettingsFields) (x : List ℕ) → length (hash s x) ≡ digest_len s
 unfolding hash

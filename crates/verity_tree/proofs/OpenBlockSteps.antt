@@ -1,13 +1,14 @@
--- A digest that comes to the open block of its level, and how the block is written among the others.
+-- A digest that comes to the open block of its level, how the block is written among the others, and the open blocks
+-- before any digest has come.
 use Rattle.std.proofs.Common.{◌≡◌, ℕ, ◌+◌, ◌-◌, ◌*◌, ◌/◌, ◌%◌, ◌^◌, ◌<◌, ◌≤◌, ◌⊎◌, List, [], length-drop}
 use Rattle.std.proofs.Common.{◌++◌, get_or, take, drop, length, replicate, arith, sym, ◌∙◌, ap, subst, inl, inr}
 use Rattle.std.proofs.lemmas.Bool.{cases_lt}
 use Rattle.std.proofs.lemmas.Nat.{div-add-mod', le-div, mod_below}
 use Rattle.std.proofs.Math.Nat.{div-div-eq-div-mul, div-eq_of_lt, div-mul-le_self}
-use Rattle.std.proofs.lemmas.List.{length-map, length-take-le}
+use Rattle.std.proofs.lemmas.List.{length-map, length-take-le, drop-replicate, take-replicate}
 use Rattle.std.proofs.lemmas.Slice.{take-put_mid_below, drop-put_mid, between-put_mid}
 use borrow.Rule.Slice.PartMut.{put_mid}
-use Rattle.std.proofs.Math.Nat.{one-le-pow, pow-zero}
+use Rattle.std.proofs.Math.Nat.{one-le-pow, pow-zero, zero-div, zero-mod}
 use Rattle.std.specs.Fork.{slice_chunk}
 use Rattle.std.specs.Int.{div_ceil}
 use Rattle.verity_plan.specs.Settings.{TreeSettingsFields, hash, fan, slot_width, digest_len}
@@ -142,6 +143,23 @@ pub hash_block_of-none : (s : TreeSettingsFields) (n : ℕ) (digests : List (Lis
     → hash_block_of s (take 0 (drop n digests)) ≡ replicate s.hash_block 0
 hash_block_of-none s n digests =
     ap (λ (k : ℕ). replicate k 0) (let e : s.hash_block - 0 ≡ s.hash_block = omega arith in e)
+
+-- a store of zeros has the open blocks to which no digest has come
+pub HasOpenBlocks-zeros : (s : TreeSettingsFields) (blocks : List (List ℕ)) (levels len : ℕ) (store : List ℕ)
+    → 0 < fan s
+    → store ≡ replicate len 0
+    → levels * s.hash_block ≤ len → HasOpenBlocks s blocks 0 levels 0 store
+HasOpenBlocks-zeros s blocks levels len store some zeros room = λ l from to.
+    let f = fan s in
+    let size = s.hash_block in
+    let step : l + 1 ≤ levels = omega (arith, to) in
+    let fits : size ≤ len - l * size = omega (arith, room, mul_le (l + 1) levels size step) in
+    let run = drop-replicate {X = ℕ} (l * size) len 0 in
+    let front = take-replicate {X = ℕ} size (len - l * size) 0 fits in
+    let none = hash_block_of-none s (0 / f * f) (digests_under s blocks l) in
+    let place = zero-div (f ^ l) in
+    let start = zero-mod f in
+    cc
 
 -- past all levels only the last data block comes, and its digest is the root
 pub level_digest-root : (s : TreeSettingsFields) (blocks : List (List ℕ)) (i levels : ℕ) (store digest : List ℕ)

@@ -15,8 +15,7 @@ use Rattle.verity_plan.proofs.CountLemmas.{div_ceil-le, le-div_ceil, mul_le}
 use Rattle.verity_plan.proofs.FanLemmas.{fan-some}
 use Rattle.verity_tree.specs.Levels.{block_at, blocks_up, cut, data_blocks, hash_block_of, pack}
 use Rattle.verity_tree.specs.Parts.{HasPart, bytes_of_part, digest_of_part, blocks_in_part, plan_of_part}
-use Rattle.verity_tree.proofs.LevelLemmas.{length-cut, run-of_front}
-use Rattle.verity_tree.proofs.PrefixLemmas.{get_or-pack}
+use Rattle.verity_tree.proofs.LevelLemmas.{get_or-pack, length-cut, run-of_front}
 use Rattle.verity_tree.proofs.TreeLemmas.{length-pack}
 
 -- a run of a run

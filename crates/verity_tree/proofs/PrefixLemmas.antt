@@ -2,7 +2,6 @@
 use Rattle.std.proofs.Common.{◌≡◌, ℕ, zero, suc, ◌+◌, ◌*◌, ◌^◌, ◌<◌, ◌≤◌, min, List, [], get_or, length, map}
 use Rattle.std.proofs.Common.{arith, sym, ◌∙◌, ap, length-drop}
 use Rattle.std.proofs.lemmas.List.{length-map, length-take, get_or-map, ext_get_or, places}
-use Rattle.std.proofs.lemmas.List.FromFn.{get_or-map-range_with_len}
 use Rattle.std.proofs.Math.Nat.{pow-zero, pow-suc, one-le-pow}
 use Rattle.std.specs.Fork.{slice_chunk}
 use Rattle.std.specs.Int.{div_ceil}
@@ -10,17 +9,10 @@ use Rattle.verity_tree.specs.ClosingOrder.{closed_after, times}
 use Rattle.verity_tree.specs.TreeOnDevice.{tree_block}
 use Rattle.verity_tree.proofs.OrderLemmas.{closed_time}
 use Rattle.verity_plan.specs.Settings.{TreeSettingsFields, hash, fan}
-use Rattle.verity_tree.specs.Levels.{pack, hash_block_of, blocks_up}
+use Rattle.verity_tree.specs.Levels.{hash_block_of, blocks_up}
 use Rattle.verity_plan.proofs.CountLemmas.{div_ceil-div_ceil, mul_le}
 use Rattle.verity_tree.proofs.TreeLemmas.{length-blocks_up}
-
--- the j-th block of digests that are packed
-pub get_or-pack : (s : TreeSettingsFields) (digests : List (List ℕ)) (j : ℕ) → j < div_ceil (length digests) (fan s)
-    → get_or (pack s digests) j [] ≡ hash_block_of s (slice_chunk digests (fan s) j)
-unfolding pack
-get_or-pack s digests j h =
-    get_or-map-range_with_len (λ m. hash_block_of s (slice_chunk digests (fan s) m)) 0
-    (div_ceil (length digests) (fan s)) j j [] h (omega arith)
+use Rattle.verity_tree.proofs.LevelLemmas.{get_or-pack}
 
 -- two runs with the same elements are one
 pub slice_chunk-same : (xs ys : List (List ℕ)) (size j : ℕ) → length xs ≡ length ys

@@ -3,7 +3,8 @@
 use Rattle.std.proofs.Common.{◌≡◌, ◌≢◌, ℕ, zero, suc, ◌+◌, ◌-◌, ◌*◌, ◌/◌, ◌%◌, ◌<◌, ◌≤◌, List, [], ◌++◌, length, take}
 use Rattle.std.proofs.Common.{drop, replicate, arith, rules, sym, ◌∙◌, ap, refl, inl, inr}
 use Rattle.std.proofs.Common.{length-append, length-drop}
-use Rattle.std.proofs.Math.Nat.{div-eq_of_lt-le}
+use Rattle.std.proofs.Math.Nat.{div-eq_of_lt-le, zero-div, zero-mul}
+use Rattle.std.proofs.Math.Seq.{drop-nil}
 use Rattle.std.proofs.lemmas.List.{append-nil, drop-append-le, drop-drop, drop_all, places, same_lists, take_all}
 use Rattle.std.proofs.lemmas.Nat.{div-add-mod', mod_below}
 use Rattle.std.specs.Fork.{slice_chunk}
@@ -24,7 +25,7 @@ use Rattle.verity_tree.specs.declared.window.WindowPlace.{WindowPlace}
 use Rattle.verity_tree.proofs.DataBlockLemmas.{level_digest-data}
 use Rattle.verity_tree.proofs.FirstBlockLemmas.{first_blocks-more, first_blocks-plan}
 use Rattle.verity_tree.proofs.LevelLemmas.{length-cut}
-use Rattle.verity_tree.proofs.OpenBlockSteps.{index-first}
+use Rattle.verity_tree.proofs.OpenBlockSteps.{HasOpenBlocks-zeros, index-first}
 use Rattle.verity_tree.proofs.OrderSplit.{closed_after-more, closes-none, closing-prefix}
 use Rattle.verity_tree.proofs.ReachedLemmas.{IsReached-zero}
 use Rattle.verity_tree.proofs.WindowLemmas.{placed-in-window, window-batch}
@@ -175,3 +176,13 @@ HasFed-filled s levels at fed more opened before window here some within filled 
       stands = first_blocks-more s (q * window_blocks s) levels fed more opened (fan-some s) (omega (arith, split)) settled.stands;
       holds = rw (rest, long, filled, stood) refl;
     })
+
+-- open blocks of zeros, to which nothing was fed
+pub HasFed-zeros : (s : TreeSettingsFields) (levels len : ℕ) (opened window : List ℕ) → opened ≡ replicate len 0
+    → levels * s.hash_block ≤ len → HasFed s levels [] opened window
+HasFed-zeros s levels len opened window zeros room =
+    let start : windows_before s 0 * window_blocks s ≡ 0 = simp (zero-div, zero-mul) in
+    record {
+      stands = rw start (HasOpenBlocks-zeros s (first_blocks s 0 []) levels len opened (fan-some s) zeros room);
+      holds = rw drop-nil refl;
+    }

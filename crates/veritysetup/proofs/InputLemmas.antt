@@ -4,7 +4,7 @@ use Rattle.std.proofs.Common.{Err, sym, subst, ◌∙◌, ap, refl}
 use Rattle.verity_format.specs.CheckedSuperblocks.{superblock_fault}
 use Rattle.verity_format.specs.Superblocks.{IsSuperblock, SuperblockFields}
 use Rattle.verity_format.specs.declared.super_fault.SuperFault.{SuperFault}
-use Rattle.verity_format.proofs.LawLemmas.{one-superblock, says-fault_none}
+use Rattle.verity_format.proofs.SuperblockLemmas.{one-superblock, says-fault_none}
 use Rattle.verity_plan.specs.Plans.{IsPlan, PlanFields, base_of, plan_at}
 use Rattle.verity_plan.proofs.PlanLemmas.{IsPlan-plan_from}
 use Rattle.veritysetup.specs.Faults.{side_of}

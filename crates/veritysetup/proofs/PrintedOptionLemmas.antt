@@ -242,12 +242,12 @@ printed-back s same_file size random valid uuid salt apart =
 -- ---- the options of format, given to verify
 
 -- what makes a tree has its algorithm, and makes it with its own salt too
-tree-same : (algorithm : Algorithm) (hash_type : HashType) (data_block_size hash_block_size : ℕ)
+tree_of-own_salt : (algorithm : Algorithm) (hash_type : HashType) (data_block_size hash_block_size : ℕ)
     (given : Option (List ℕ)) (tree : TreeSettingsFields)
     → tree_of algorithm hash_type data_block_size hash_block_size given ≡ chosen tree
     → (algorithm ≡ tree.algorithm)
     × (tree_of algorithm hash_type data_block_size hash_block_size (Some tree.salt) ≡ chosen tree)
-tree-same algorithm hash_type data_block_size hash_block_size given tree e =
+tree_of-own_salt algorithm hash_type data_block_size hash_block_size given tree e =
     let of_data = unstep (ok_or (block_size_of data_block_size) (option.BadBlockSize DataBlockSize))
     (tree_by_data algorithm hash_type hash_block_size given) tree e in
     let of_hash = unstep (ok_or (block_size_of hash_block_size) (option.BadBlockSize HashBlockSize))
@@ -354,8 +354,8 @@ verified-options texts size last given random s digits root planned agree bytes 
     plan_is tree.0 count (base_of offset.0 b tree.0.hash_block) plan.0 from in
     let tree_is : tree.0 ≡ s.plan.settings =
     sym (ap (λ (p : PlanFields). p.settings) planned_from.plan_is) ∙ ap (λ (p : PlanFields). p.settings) same in
-    let own = tree-same algorithm.0 hash_type.0 data_block_size.0 hash_block_size.0 (salt_or_random texts.salt random)
-    tree.0 tree.1.0 in
+    let own = tree_of-own_salt algorithm.0 hash_type.0 data_block_size.0 hash_block_size.0
+    (salt_or_random texts.salt random) tree.0 tree.1.0 in
     let named : algorithm.0 ≡ s.plan.settings.algorithm =
     own.0 ∙ ap (λ (t : TreeSettingsFields). t.algorithm) tree_is in
     let short : length s.plan.settings.salt ≤ 256 =

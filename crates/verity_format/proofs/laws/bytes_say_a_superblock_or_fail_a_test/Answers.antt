@@ -1,4 +1,4 @@
-use Rattle.verity_format.proofs.LawLemmas.{fault_none-says, says-fault_none}
+use Rattle.verity_format.proofs.SuperblockLemmas.{fault_none-says, says-fault_none}
 use Rattle.verity_format.proofs.laws.bytes_say_a_superblock_or_fail_a_test.Goals as goal
 
 pub returns : goal.returns

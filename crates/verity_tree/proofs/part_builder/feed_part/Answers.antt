@@ -5,7 +5,7 @@ use Rattle.verity_tree.specs.Steps.Parts.{FeedsPartOn, PartStands}
 use Rattle.verity_tree.proofs.AdvanceLemmas.{length-fed}
 use Rattle.verity_tree.proofs.PartSteps.{FeedsPartOn-last, FeedsPartOn-none, FeedsPartOn-of_tree, Stands-of_part}
 use Rattle.verity_tree.proofs.part_builder.feed_part.Goals as goal
-use Rattle.verity_tree.proofs.part_builder.feed_part.Goals.{After-feed_until_closed-count, Joined-progress-levels}
+use Rattle.verity_tree.proofs.part_builder.feed_part.Goals.{Joined-progress-levels}
 use Rattle.verity_tree.proofs.part_builder.feed_part.Goals.{else-progress-levels}
 use Rattle.verity_tree.proofs.part_builder.feed_part.Goals.{then-progress-levels+else-closes+else-progress-wanted}
 

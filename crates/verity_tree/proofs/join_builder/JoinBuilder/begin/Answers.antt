@@ -4,7 +4,7 @@ use Rattle.verity_plan.specs.PlanCounts.{level_count_of}
 use Rattle.verity_plan.proofs.FanLemmas.{fan-some}
 use Rattle.verity_tree.specs.Parts.{blocks_under}
 use Rattle.verity_tree.proofs.JoinLemmas.{JoinStands-begun}
-use Rattle.verity_tree.proofs.OnePassLemmas.{HasOpenBlocks-zeros}
+use Rattle.verity_tree.proofs.OpenBlockSteps.{HasOpenBlocks-zeros}
 use Rattle.verity_tree.proofs.PlanOfJoin.{length-under, parts-some}
 use Rattle.verity_tree.proofs.join_builder.JoinBuilder.begin.Goals as goal
 

@@ -15,11 +15,12 @@ use Rattle.verity_tree.specs.Windows.{window_length}
 use Rattle.verity_tree.proofs.LastByteLemmas.{last-below}
 use Rattle.verity_tree.proofs.ClosingLemmas.{closing-below}
 use Rattle.verity_tree.proofs.HandedOutLemmas.{all-handed-out, none-handed-out}
-use Rattle.verity_tree.proofs.OnePassLemmas.{HandsOn, HasFed-zeros, chunk-at, data_blocks-front, feeds-window, hands-on}
+use Rattle.verity_tree.proofs.OnePassLemmas.{HandsOn, chunk-at, data_blocks-front, feeds-window, hands-on}
 use Rattle.verity_tree.proofs.OnePassLemmas.{not-of_device, not-of_source, reads-up-to, stopped-below, stops-for, stops-in-window}
 use Rattle.verity_tree.proofs.OnePassLemmas.{whole-windows}
 use Rattle.verity_tree.proofs.ReachedLemmas.{whole-next}
 use Rattle.verity_tree.proofs.WindowLemmas.{window-wide}
+use Rattle.verity_tree.proofs.WindowSteps.{HasFed-zeros}
 use Rattle.verity_tree.proofs.pass.one_pass.pass_over_windows.Goals as goal
 use Rattle.verity_tree.proofs.pass.one_pass.pass_over_windows.Given.{Over}
 use Rattle.verity_tree.proofs.pass.one_pass.pass_over_windows.Goals.{After-close_next, After-handed_out-next}
