@@ -1,11 +1,12 @@
 #!/usr/bin/env bash
-# dist.sh: makes one archive of the sources as they were committed, in the folder DIST, and prints its name, which has
-# the version. What is packaged for Debian adds debian/, so that isn't in it. A version's release is the first commit
-# whose CHANGELOG.md has its date. That of another commit has the commit's date and number in its name, too:
+# dist.sh: makes one archive of the sources as they were committed, in the folder DIST, and prints its name. debian/ isn't
+# in it: Debian's packages add that. The release of a version is the first commit whose CHANGELOG.md has its date. The
+# archive of another one has the commit's date and number in its name, too. In the order that dpkg finds in them:
 #   verity-2.0.0~git20261128.0123456789ab.tar.gz   before the release
+#   verity-2.0.0.tar.gz                            the release
 #   verity-2.0.0+git20261130.0123456789ab.tar.gz   after it
-# dpkg sorts these versions so. The times in it are the commit's, so that the same commit gives the same bytes, wherever
-# and whenever the archive is made.
+# The times in it are the commit's, so that the same commit gives the same bytes, wherever and whenever the archive is
+# made.
 set -euo pipefail
 cd "$(dirname "$0")"
 . ./building.sh
@@ -22,9 +23,9 @@ is_dated() {
 
 other=
 if is_dated "$commit"; then
-    # A shallow repository has no other word for the commits before.
+    # What the commit itself says, in a shallow repository too.
     for before in $(sed -n '/^$/q; s/^parent //p' <<<"$(git cat-file commit "$commit")"); do
-        if ! git cat-file -e "$before" 2>/dev/null; then refuse "commit $before isn't here, so none is the release"; fi
+        if ! git cat-file -e "$before" 2>/dev/null; then refuse "$before, the commit before, isn't here"; fi
         if is_dated "$before"; then other=+; fi
     done
 else

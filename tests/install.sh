@@ -280,7 +280,7 @@ if [ -e .git ] && command -v git >/dev/null; then
     git clone -q --depth 1 "file://$scratch/headed" "$scratch/shallow"
     runs 'make dist, without the commit before' 2 '' any make -s -C "$scratch/shallow" --no-print-directory dist
     same 'make dist, without the commit before: why' \
-        "dist.sh: commit $(git -C "$scratch/headed" rev-parse HEAD^) isn't here, so none is the release" \
+        "dist.sh: $(git -C "$scratch/headed" rev-parse HEAD^), the commit before, isn't here" \
         "$(head -n 1 "$scratch/.err")"
     runs 'make dist' 0 any '' make -s --no-print-directory dist DIST="$scratch/dist"
     name=$(basename "$(cat "$scratch/.out")" .tar.gz)
