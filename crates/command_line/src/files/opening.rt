@@ -1,6 +1,6 @@
 //! Opening files.
 ghost use Rattle.std.specs.Prelude.{◌≡◌, IfOk, OnErr, OnOk, true};
-ghost use Rattle.std.specs.Fs.{IsDir, file_type, new_options, with_create, with_read, with_write};
+ghost use Rattle.std.specs.Fs.{IsDir, file_type, new_options, with_read, with_write};
 
 use std::fs::{File, Metadata, OpenFile, OpenOptions};
 use std::io;
@@ -93,18 +93,28 @@ pub fn open_measured<'a, R: Files>(rt: &R, path: &'a str) -> io::Result<Measured
 pub fn open_writable<'a, R: Files>(rt: &R, path: &'a str) -> io::Result<OpenedFile<'a, R::File>>
     ensures { IfOk result (λ opened. opened.path ≡ path.entry) }
 {
-    let file = writable_options().open(rt, path)?;
+    let file = open_or_create(rt, writable_options(), path)?;
     Ok(OpenedFile { file, path })
 }
 
-/// The options for reading and writing a file that is created if it is missing. A new one has the permissions that the
-/// system gives by itself (open(2), umask(2)).
+/// The options for reading and writing a file.
 fn writable_options() -> OpenOptions
-    ensures { result ≡ with_create (with_write (with_read new_options true) true) true }
+    ensures { result ≡ with_write (with_read new_options true) true }
 {
     let mut options = OpenOptions::new();
-    options.read(true).write(true).create(true);
+    options.read(true).write(true);
     options
+}
+
+/// A file opened by these options. It is created if it is missing, with the permissions that the system gives by itself
+/// (open(2), umask(2)). Only then is the system asked to create it: for somebody else's file in a folder such as `/tmp`
+/// it may refuse that (proc_sys_fs(5), "protected_regular").
+pub fn open_or_create<R: Files>(rt: &R, options: OpenOptions, path: &str) -> io::Result<R::File> {
+    let mut options = options;
+    match options.open(rt, path) {
+        Err(error) if error.kind() == ErrorKind::NotFound => options.create(true).open(rt, path),
+        opened => opened,
+    }
 }
 
 /// Whether the system says that a path leads to a folder.
