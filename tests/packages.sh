@@ -120,6 +120,7 @@ files() {
             printf -- '-rw-r--r-- %s\n' usr/include/verity.h "$libraries/libverity.a" "$libraries/pkgconfig/verity.pc" \
                 usr/share/man/man3/verity.3.gz
             echo "lrwxrwxrwx $libraries/libverity.so libverity.so.2"
+            header_functions | sed 's|.*|lrwxrwxrwx usr/share/man/man3/&.3.gz verity.3.gz|'
             if [ $architecture = arm64 ]; then echo "-rw-r--r-- $libraries/libverity-strict-align.a"; fi
             ;;
         esac

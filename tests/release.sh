@@ -66,6 +66,7 @@ files() {
         "-rw-r--r-- share/doc/verity/"{README,CHANGELOG}.md \
         "-rw-r--r-- share/man/"{man1/fsverity-proved.1,man3/verity.3,man8/veritysetup-proved.8} \
         'lrwxrwxrwx lib/libverity.so libverity.so.2'
+    header_functions | sed 's|.*|lrwxrwxrwx share/man/man3/&.3 verity.3|'
     case $1 in
     x86_64) echo '-rwxr-xr-x lib/glibc-hwcaps/x86-64-v3/libverity.so.2' ;;
     aarch64) echo '-rw-r--r-- lib/libverity-strict-align.a' ;;

@@ -138,6 +138,15 @@ struct operand params_of(const struct tree *tree)
                          : READS(PARAMS, "the parameters", &tree->device, sizeof tree->device);
 }
 
+int call_default_params(uint64_t data_blocks, struct verity_params *params)
+{
+    struct call call = {.name = "verity_default_params",
+                        .operands = {FILLS(FIRST_FILLED, "the parameters", params, sizeof *params)}};
+
+    MAKES(call, verity_default_params(data_blocks, call.at[0]));
+    return call.status;
+}
+
 int call_read_superblock(struct bytes bytes, uint64_t hash_offset, struct verity_params *params)
 {
     struct call call = {.name = "verity_read_superblock",

@@ -16,6 +16,7 @@
  * header's, the second answer is the first, what is handed in stays as it is, and so does what is filled if the status
  * doesn't let it change.
  */
+int call_default_params(uint64_t data_blocks, struct verity_params *params);
 int call_read_superblock(struct bytes bytes, uint64_t hash_offset, struct verity_params *params);
 int call_level_count(const struct tree *tree, size_t *levels);
 int call_level_start(const struct tree *tree, size_t level, uint64_t *start, uint64_t *blocks);

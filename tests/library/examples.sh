@@ -346,7 +346,7 @@ END
 # stack_of NAME LIBRARY FEEDING RUNNER COMPILER..: measures the stack and compares it with what the header states:
 # FEEDING bytes for a call that feeds.
 stack_of() {
-    local name=$1 library=$2 feeding=$3 runner=$4 functions function taken most
+    local name=$1 library=$2 feeding=$3 runner=$4 function taken most
     shift 4
     if ! "$@" -std=c11 -O2 -static -Wall -Wextra -Wpedantic -Werror -Iinclude -o "$scratch/stack" \
         tests/library/stack.c "$library" >"$scratch/built" 2>&1; then
@@ -361,8 +361,7 @@ stack_of() {
         fail "stack for $name" "tests/library/stack.c ends with $?: $(cat "$scratch/.err")"
         return
     fi
-    functions=$(sed -nE 's/^(VERITY_MUST_CHECK int|uint32_t) ([a-z_]+)\(.*/\2/p' include/verity.h | sort)
-    same "stack for $name: the functions" "$functions" "$(cut -d' ' -f1 "$scratch/taken" | sort)"
+    same "stack for $name: the functions" "$(header_functions)" "$(cut -d' ' -f1 "$scratch/taken" | sort)"
     echo "bytes of stack for $name:"
     while read -r function taken; do
         printf '    %-24s %5d\n' "$function" "$taken"

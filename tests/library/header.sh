@@ -105,7 +105,7 @@ beside $paint
 digest $(sha512 "$scratch/descriptor")" "$(cat "$scratch/structs.txt")"
 fi
 
-same 'functions of the header' 60 "$(wc -l <<<"$functions")"
+same 'functions of the header' 61 "$(wc -l <<<"$functions")"
 same 'functions that refused.c calls' "$with_status" \
     "$(sed -nE 's/^    \{"((fs)?verity_[a-z_]+)", .*/\1/p' tests/library/refused.c | sort)"
 same 'functions that the shared library shows' "$(sed 's/$/@@VERITY_2.0/' <<<"$functions" | sort)" \

@@ -59,6 +59,7 @@ static uint32_t function;
         return __VA_ARGS__; \
     }
 
+CALL(default_params, call_default_params(tree->device.data_blocks, &found))
 CALL(read_superblock, call_read_superblock(bytes_of(now.superblock, now.superblock_length), 0, &found))
 CALL(level_count, call_level_count(tree, &number))
 CALL(level_start, call_level_start(tree, now.level, &start, &blocks))
@@ -251,6 +252,7 @@ static const struct row {
     int kind;
     const struct fault *faults[24];
 } rows[] = {
+    {"verity_default_params", default_params, DEVICE, {&no_data, &too_large}},
     {"verity_read_superblock", read_superblock, DEVICE,
      {&short_superblock, &signature, &version, &type, &data_block_size, &hash_block_size, &algorithm, &salt, &no_data,
       &too_large}},

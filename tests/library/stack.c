@@ -65,6 +65,10 @@ static void empty_call(void) {
     status = VERITY_OK;
 }
 
+static void default_params_call(void) {
+    status = verity_default_params(params.data_blocks, &filled);
+}
+
 static void read_superblock_call(void) {
     status = verity_read_superblock(superblock, sizeof superblock, 0, &filled);
 }
@@ -330,6 +334,7 @@ static struct function {
     int times;
     size_t most;
 } functions[] = {
+    {"verity_default_params", default_params_call, 0, ONCE, 0},
     {"verity_read_superblock", read_superblock_call, 0, ONCE, 0},
     {"verity_level_count", verity_level_count_call, 0, ONCE, 0},
     {"verity_level_start", verity_level_start_call, 0, EACH_LEVEL, 0},
