@@ -239,7 +239,7 @@
 #include <stdint.h>
 
 #define VERITY_VERSION_MAJOR 2
-#define VERITY_VERSION_MINOR 0
+#define VERITY_VERSION_MINOR 1
 #define VERITY_VERSION_PATCH 0
 
 #ifdef __cplusplus
