@@ -139,6 +139,14 @@ row 'an output file that can'\''t be opened'
 theirs 2 '' any fsverity digest --out-descriptor "$scratch/none/file" "$input"
 ours 1 '' "fsverity: cannot open $scratch/none/file." "$fsverity" digest --out-descriptor "$scratch/none/file" "$input"
 
+row 'an output file that is there, where the kernel refuses O_CREAT, as for files of others in a sticky folder'
+uncreating=(python3 tests/lib/without_creating.py)
+cp "$input" "$scratch/there"
+theirs 2 '' any "${uncreating[@]}" fsverity digest --out-descriptor "$scratch/there" "$input"
+ours 0 any '' "${uncreating[@]}" "$fsverity" digest --out-descriptor "$scratch/there" "$input"
+fsverity digest --out-descriptor "$scratch/part" "$input" >/dev/null
+same_bytes "$row: here" "$scratch/part" "$scratch/there"
+
 row 'a folder as the second output file'
 theirs 2 '' any fsverity digest --out-merkle-tree "$scratch/first_made" --out-descriptor "$scratch/folder" "$input"
 size 0 "$scratch/first_made"
