@@ -535,7 +535,7 @@ static bool has_fault(const struct row *row, int status)
     return false;
 }
 
-/* A number is refused by each function that looks at it, or accepted. Superblocks have tests of their own. */
+/* A number is refused by each function that looks at it, or accepted. Superblocks and defaults have tests of their own. */
 static void try_limit(const struct limit *limit, uint64_t number_in_field)
 {
     struct building *building;
@@ -553,6 +553,7 @@ static void try_limit(const struct limit *limit, uint64_t number_in_field)
         /* The computation that other expected values rest on says the same. */
         check(shape_of(&building->tree).status == limit->status, "%" PRIu64 ": expected otherwise", number_in_field);
         if ((row->kind != limit->kind && !is_tree) || row->call == read_superblock ||
+            row->call == default_params ||
             !(limit->status == VERITY_OK ? row->call == level_count : has_fault(row, limit->status)))
             continue;
         memcpy(memories, kept, sizeof memories);
