@@ -4,8 +4,8 @@ use fixtures::data;
 use memory_runtime::Call;
 use std::test::Fail;
 
-/// How many of the places for a placeholder aren't there, the placeholder then, command lines, their statuses, and what is
-/// opened and closed while the placeholders are open.
+/// How many of the places for a placeholder aren't there, the placeholder then, command lines, their statuses, and what
+/// is opened and closed while the placeholders are open.
 const HELD: [(usize, &str, &str, u8, &str); 6] = [
     (0, "/", "fsverity digest two", 0, "open two\nclose two\n"),
     (

@@ -1,6 +1,6 @@
 -- What the parameters of the library for C say: the settings and the plan that they make, or the first fault; and the
--- parameters that a superblock says, or for which nothing is chosen. Numbers of hash functions are the Linux kernel's for fs-verity
--- (`FS_VERITY_HASH_ALG_*`) and go on from there.
+-- parameters that a superblock says, or for which nothing is chosen. Numbers of hash functions are the Linux kernel's
+-- for fs-verity (`FS_VERITY_HASH_ALG_*`) and go on from there.
 use Rattle.std.specs.Prelude.{ℕ, ◌==◌, length, take, replicate, nat_le, Option, Some, None, Result, Ok, Err}
 use Rattle.std.specs.Prelude.{if◌then◌else◌}
 use Rattle.verity_hash.specs.Hashing.{with_zeros}

@@ -1,6 +1,6 @@
 //! Opening files.
 ghost use Rattle.std.specs.Prelude.{◌≡◌, IfOk, OnErr, OnOk, true};
-ghost use Rattle.std.specs.Fs.{IsDir, file_type, new_options, with_read, with_write};
+ghost use Rattle.std.specs.Fs.{IsDir, file_type, new_options, with_create, with_read, with_write};
 
 use std::fs::{File, Metadata, OpenFile, OpenOptions};
 use std::io;
@@ -106,15 +106,24 @@ fn writable_options() -> OpenOptions
     options
 }
 
-/// A file opened by these options. It is created if it is missing, with the permissions that the system gives by itself
-/// (open(2), umask(2)). Only then is the system asked to create it: for somebody else's file in a folder such as `/tmp`
-/// it may refuse that (proc_sys_fs(5), "protected_regular").
+/// A file opened by these options. It is created if it is missing. Only then is the system asked to create it, since it
+/// may refuse that for somebody else's file in a folder such as `/tmp` (proc_sys_fs(5), "protected_regular").
 pub fn open_or_create<R: Files>(rt: &R, options: OpenOptions, path: &str) -> io::Result<R::File> {
     let mut options = options;
     match options.open(rt, path) {
-        Err(error) if error.kind() == ErrorKind::NotFound => options.create(true).open(rt, path),
+        Err(error) if error.kind() == ErrorKind::NotFound => {
+            ask_to_create(&mut options);
+            options.open(rt, path)
+        }
         opened => opened,
     }
+}
+
+/// Has a file created if it is missing, with the permissions that the system gives by itself (open(2), umask(2)).
+fn ask_to_create(options: &mut OpenOptions)
+    ensures { options.new ≡ with_create options.old true }
+{
+    options.create(true);
 }
 
 /// Whether the system says that a path leads to a folder.

@@ -8,9 +8,10 @@ use std::rt::Files;
 /// The null device (null(4)).
 pub const NULL_DEVICE: &str = "/dev/null";
 
-/// A placeholder is the first of these that can be opened. No command takes a folder for a file. So a name such as
-/// `/dev/fd/3` that leads to a placeholder is refused, but not if that is the null device, which comes last: where the
-/// root folder can't be opened and there is no folder of descriptors (proc_pid_fd(5)).
+/// A placeholder is the first of these that can be opened. No command takes a folder for a file, so a name that leads
+/// to one, such as `/dev/fd/3`, can't be opened. Such names lie in `/proc` (proc_pid_fd(5)). The null device comes last,
+/// where no folder can be opened, as in a sandbox: a name that leads there is taken, for a file without bytes or one
+/// that keeps nothing.
 const PLACES: [&str; 3] = ["/", "/proc", NULL_DEVICE];
 
 /// A placeholder for each standard stream. Otherwise a file that is opened later could get the number of a standard
