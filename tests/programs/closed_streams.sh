@@ -7,6 +7,7 @@ cd "$(dirname "$0")/../.."
 . tests/lib/checks.sh
 . tests/lib/stated_images.sh
 . tests/lib/digests.sh
+. tests/lib/without_devices.sh
 has_program fsverity
 has_program veritysetup
 fsverity=$BIN/fsverity
@@ -84,8 +85,8 @@ cp "$data" "$stated" "$file" "$found"
 cp -r "$found" "$expected"
 sample 9000 >"$scratch/longer"
 
-# takes NAME TEXT SECOND GIVEN LEFT COMMAND..: a command takes the names of ten descriptors, one after another, in place
-# of the word @. An open stream's name leads to the stream's file, with the bytes of GIVEN before and of LEFT after, and
+# takes NAME TEXT SECOND GIVEN LEFT COMMAND..: a command takes the names of ten descriptors in the folder `at`, one after
+# another, in place of the word @. `within` has what begins it. An open stream's name leads to the stream's file, with the bytes of GIVEN before and of LEFT after, and
 # TEXT is printed. Any other can't be opened, since nothing was open there when the program began, and nothing is made
 # or changed. But once three files are held open DATA gets the next number, whose name is its second one: with that,
 # SECOND is the message, if there is one.
@@ -97,7 +98,7 @@ takes() {
         fault=1 unopened='fsverity: cannot open' unwritten='fsverity: cannot write output.'
     fi
     for number in {0..9}; do
-        word=/dev/fd/$number status=$fault printed='' ended=0
+        word=$at/$number status=$fault printed='' ended=0
         message="$unopened $word."
         truncate -s 0 "$found"/{0,1,2} "$expected"/{0,1,2}
         if [ -e "$found/hash" ]; then rm -f "$found/hash" "$expected/hash"; fi
@@ -112,14 +113,15 @@ takes() {
         fi
         if [[ $closed != *1* ]]; then printf %s "${printed:+$printed$'\n'}" >>"$expected/1"; fi
         if [[ $closed != *2* ]]; then printf %s "${message:+$message$'\n'}" >>"$expected/2"; fi
-        with_closed "$closed" "${@/#@/$word}" <"$found/0" >>"$found/1" 2>>"$found/2" || ended=$?
+        with_closed "$closed" "${within[@]}" "${@/#@/$word}" <"$found/0" >>"$found/1" 2>>"$found/2" || ended=$?
         same "$name as $word, '$closed' closed: status" $status $ended
         same "$name as $word, '$closed' closed: what is left" '' "$(diff -r "$expected" "$found" 2>&1)"
     done
 }
 
+# descriptors FOLDER WORD..: each command takes the names of descriptors in this folder, begun by these words.
 descriptors() {
-    local image=("${image_17_options[@]}") digest=${line%% *}
+    local at=$1 within=("${@:2}") image=("${image_17_options[@]}") digest=${line%% *}
     takes DATA "$(report "$found/hash" 512 512 17 - "$root")" '' "$data" "$data" \
         "$veritysetup" format "${image[@]}" @ "$found/hash"
     takes HASH "$(report @ 512 512 17 - "$root")" 'Data area and hash area overlap.' /dev/null "$stated" \
@@ -202,8 +204,12 @@ for closed in '' 0 1 2 '0 1' '0 2' '1 2' '0 1 2'; do
     digests_to tree made
     hash_devices
     # Of what qemu runs each start takes long.
-    if ! is_imitated || [ "$closed" = '' ] || [ "$closed" = '0 1 2' ]; then descriptors; fi
+    if ! is_imitated || [ "$closed" = '' ] || [ "$closed" = '0 1 2' ]; then
+        descriptors /dev/fd
+        if can_hide_devices; then descriptors /proc/self/fd "${without_devices[@]}"; fi
+    fi
 done
+if ! can_hide_devices; then echo "left out: names of descriptors without /dev: it can't be hidden here"; fi
 other_names
 few_open_files
 finish

@@ -4,14 +4,11 @@ set -u
 cd "$(dirname "$0")/../.."
 . tests/lib/checks.sh
 . tests/lib/stated_images.sh
+. tests/lib/without_devices.sh
 has_program fsverity
 has_program veritysetup
 
-# A name space of its own, in which an empty file system stands over /dev.
-without_devices=(unshare --mount)
-if [ "$(id -u)" -ne 0 ]; then without_devices=(unshare --map-root-user --mount); fi
-without_devices+=(sh -c 'mount -t tmpfs none /dev && exec "$@"' -)
-if ! "${without_devices[@]}" test ! -e /dev/null 2>/dev/null; then
+if ! can_hide_devices; then
     echo "$0: /dev can't be hidden here"
     exit $LEFT_OUT
 fi
@@ -37,23 +34,8 @@ flip "$data" 8192 255
 runs 'digest' 0 "sha256:$DIGEST_OF_EMPTY $scratch/empty" '' \
     "${without_devices[@]}" "$BIN/fsverity" digest "$scratch/empty"
 
-# Descriptors have names here too. What is held open in place of the streams is no file of a command.
-rm "$hash"
-exec 3<&- 4<&- 5<&- 6<&- 7<&- 8<&- 9<&-
-for number in 0 3 4; do
-    name=/proc/self/fd/$number
-    runs "descriptor $number as DATA" 4 '' "Cannot open $name." \
-        with_closed 0 "${veritysetup[@]}" format "$name" "$hash"
-    absent "descriptor $number as DATA" "$hash"
-    runs "descriptor $number as HASH" 4 '' "Cannot open $name." \
-        with_closed 0 "${veritysetup[@]}" format "$data" "$name"
-    runs "descriptor $number as FILE" 1 '' "fsverity: cannot open $name." \
-        with_closed 0 "${without_devices[@]}" "$BIN/fsverity" digest "$name"
-    runs "descriptor $number as an output file" 1 '' "fsverity: cannot open $name." \
-        with_closed 0 "${without_devices[@]}" "$BIN/fsverity" digest --out-merkle-tree "$name" "$scratch/empty"
-done
-
 # No report lands in the hash file if standard streams are closed.
+rm "$hash"
 runs 'all streams closed' 4 '' '' \
     with_closed '0 1 2' "${veritysetup[@]}" format "${image_17_options[@]}" "$data" "$hash"
 same_bytes 'all streams closed: the hash file' "$stated" "$hash"
