@@ -71,10 +71,14 @@ refuses 'new files without O_CREAT' "${uncreating[@]}"
 writes 'new files'
 are_there
 writes 'files without O_CREAT' "${uncreating[@]}"
-are_there
-if [ "$(id -u)" -eq 0 ]; then chown 65534:65534 "$folder"/*; fi
-if (: >>"$folder/tree") 2>/dev/null; then echo 'files of others: this kernel lets them be opened with O_CREAT'; fi
-writes 'files of others'
+if [ "$(id -u)" -eq 0 ]; then
+    are_there
+    chown 65534:65534 "$folder"/*
+    if (: >>"$folder/tree") 2>/dev/null; then echo 'files of others: this kernel lets them be opened with O_CREAT'; fi
+    writes 'files of others'
+else
+    echo 'left out: files of others: only root can make them'
+fi
 are_there
 chmod 444 "$folder"/*
 refuses 'files that may only be read' "${unprivileged[@]}"
