@@ -9,10 +9,9 @@
  * one tree, part or join. It calls memcpy, memmove and memset, and nothing else.
  *
  * What every caller owes, since it can't be checked here:
- *   - NO POINTER IS NULL, NOT EVEN FOR A LENGTH OF 0: what is compiled may rest on that. Where there may be null for no
- *     bytes, as in data() of an empty std::vector of C++, hand in the address of any byte;
- *   - each points to as many bytes as the length after it says, or to a whole struct or number; structs and numbers are
- *     aligned;
+ *   - a pointer points to as many bytes as the length after it says, or to a whole struct or number; structs and
+ *     numbers are aligned. A pointer may be null if its length is 0, as data() of an empty std::vector of C++ may be,
+ *     and never else;
  *   - what counts has been given a value. No value is needed by what a function only fills, by the padding of structs,
  *     by bytes of a salt after the first salt_size, by a size and a uuid that aren't looked at, and by the memory with
  *     which a tree, a part or a join is begun: nothing depends on what stands there, and it may be as malloc gave it;
@@ -57,10 +56,16 @@
  * stacks, so that no program is marked that it is linked into. On x86-64 it also jumps by tables, so that it can't run
  * where IBT is on.
  *
- * A call takes up to 12 KiB of stack on either target, and one that feeds or ends up to 16 KiB. Those that feed parts
- * take most: verity_part_feed 16312 bytes on x86-64. Measured are 14.4 KiB for feeding a tree, 12.1 for the end of a
- * file, 8.9 for a file digest, 8.3 for a block with its path, and up to 3.1 for those that hash nothing. With
- * libverity-strict-align.a a call that feeds takes up to 18 KiB.
+ * A call takes up to 12 KiB of stack on either target, and one that feeds or ends up to 16 KiB, with
+ * libverity-strict-align.a up to 18 KiB. These are the most bytes that a call can take by the library's code, whatever
+ * it is handed, but for what memcpy, memmove and memset take:
+ *
+ *                                                 x86-64   64-bit ARM   libverity-strict-align.a
+ *     a part that is fed or ended                  16264        14976                      18176
+ *     a tree that is fed or ended                  15560        14288                      17488
+ *     a join that is fed or ended, a file digest   10088         9312                      11392
+ *     a block that is checked                       8472         7632                       9776
+ *     any other call                                3112         3136                       3120
  *
  * Data that is written, copied or downloaded is fed to a tree as it comes, in pieces of any length, 0 too. The
  * functions whose names have _build_ in them do that, in memory of the caller's, exactly as long as verity_build_memory

@@ -80,7 +80,9 @@ bool begins_round(struct call *call)
     size_t i;
 
     for (i = 0; call->round < 2 && call->operands[i].what != NULL; i++)
-        call->at[i] = place(call->operands[i].buffer, start_of(call, i), call->operands[i].length);
+        call->at[i] = call->round == 1 && call->operands[i].length == 0
+                          ? NULL
+                          : place(call->operands[i].buffer, start_of(call, i), call->operands[i].length);
     return call->round < 2;
 }
 

@@ -535,7 +535,7 @@ static bool has_fault(const struct row *row, int status)
     return false;
 }
 
-/* A number is refused by each function that looks at it, or accepted. Superblocks and defaults have tests of their own. */
+/* A number is refused by each function that looks at it, or accepted. Superblocks and defaults are tested apart. */
 static void try_limit(const struct limit *limit, uint64_t number_in_field)
 {
     struct building *building;
