@@ -73,7 +73,7 @@ done
 
 if command -v mypy >/dev/null; then
     for version in 3.9 3.11; do
-        runs "mypy for $version" 0 'Success: no issues found in 8 source files' '' \
+        runs "mypy for $version" 0 'Success: no issues found in 9 source files' '' \
             mypy --strict --python-version $version --cache-dir=/dev/null $binding/verity
     done
     # A call with wrong types is one that mypy sees.

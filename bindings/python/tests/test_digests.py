@@ -17,7 +17,7 @@ import tracemalloc
 import unittest
 
 import verity
-from handlers import interrupted, with_handler
+from handlers import elsewhere, interrupted, with_handler
 from trees import FileTree
 
 A = "bce75948b9e7510293f8f2720412af9697c1479281323f3f220623fb8e94b557"
@@ -137,8 +137,9 @@ class Habits(unittest.TestCase):
         digest._state.params.size = (1 << 63) - 2
         with self.assertRaises(verity.TooLarge):
             digest.update(b"abc")
-        with self.assertRaises(verity.Error) as caught:
-            verity.FileDigest(name="md5")
+        for kind in verity.Error, ValueError:
+            with self.assertRaises(kind) as caught:
+                verity.FileDigest(name="md5")
         self.assertEqual(caught.exception.status, -6)
         self.assertRegex(str(caught.exception), "hash")
 
@@ -343,20 +344,27 @@ class Handlers(unittest.TestCase):
         self.assertIn(digest.hexdigest(), known)
 
     def test_interrupted(self):
-        """Before each line: the interrupt comes through, nothing stays locked, and a piece was fed or wasn't."""
-        for make in bytearray, lambda data: memoryview(bytearray(data)).toreadonly():
-            line = 0
+        """Before each instruction: the interrupt comes through, nothing stays locked, for other threads too, and a
+        piece was fed or wasn't."""
+        for make in bytes, bytearray, lambda data: memoryview(bytearray(data)).toreadonly():
+            place = 0
             while True:
                 data, digest = make(b"a"), verity.FileDigest()
-                if not interrupted(lambda: digest.update(data), line):
+                if not interrupted(lambda: digest.update(data), place):
                     break
-                self.assertIn(digest.hexdigest(), (A, EMPTY))
+                self.assertIn(elsewhere(digest.hexdigest), (A, EMPTY))
                 if isinstance(data, bytearray):
                     data.append(0)
-                else:
+                elif isinstance(data, memoryview):
                     data.release()
-                line += 1
-            self.assertGreater(line, 5)
+                place += 1
+            self.assertGreater(place, 25)
+        for use in verity.FileDigest.hexdigest, verity.FileDigest.copy:
+            place, digest = 0, verity.FileDigest(b"a")
+            while interrupted(lambda: use(digest), place):
+                self.assertEqual(elsewhere(digest.hexdigest), A)
+                place += 1
+            self.assertGreater(place, 25)
 
 
 class Files(unittest.TestCase):

@@ -5,11 +5,12 @@ import io
 import mmap
 import pickle
 import random
+import signal
 import threading
 import unittest
 
 import verity
-from handlers import with_handler
+from handlers import elsewhere, interrupted, with_handler
 from trees import Settings, Tree, base_of, put
 
 
@@ -124,6 +125,22 @@ class Building(unittest.TestCase):
         for use in lambda: builder.feed(b""), builder.root_hash:
             with self.assertRaisesRegex(RuntimeError, "interrupted"):
                 use()
+
+    def test_interrupted_anywhere(self):
+        """Before each instruction: the interrupt comes through, and no other thread waits for ever."""
+        image, place = Image(1, 2), 0
+        while True:
+            builder = verity.TreeBuilder(image.params)
+            if not interrupted(lambda: builder.feed(image.data), place):
+                break
+            self.assertIn(elsewhere(builder.root_hash), (verity.TooShort, RuntimeError, image.root))
+            place += 1
+        self.assertGreater(place, 100)
+        place = 0
+        while interrupted(builder.root_hash, place):
+            self.assertEqual(elsewhere(builder.root_hash), image.root)
+            place += 1
+        self.assertGreater(place, 25)
 
     def test_handlers(self):
         """A handler that feeds as well, before each line: it is refused, or comes before the piece or after it."""
@@ -390,6 +407,54 @@ class Reading(unittest.TestCase):
             found = with_handler(lambda: file.read(1024), handler)
             self.assertEqual(found, image.data[index * 512 : index * 512 + 1024])
         self.assertGreater(min(done.values()), 100)
+
+    def test_interrupted(self):
+        """Before each instruction: the interrupt comes through, no other thread waits for ever, and the file stands
+        where it stood, or at the end of what was read. What comes then is right."""
+        image, place = Image(18, 20), 0
+        while True:
+            file = image.opened()
+            if not interrupted(lambda: file.read(1024), place):
+                break
+            begin = file.tell()
+            self.assertIn(begin, (0, 1024))
+            self.assertEqual(elsewhere(lambda: file.read(700)), image.data[begin : begin + 700])
+            place += 1
+        self.assertGreater(place, 200)
+        place = 0
+        while interrupted(lambda: file.seek(512), place):
+            self.assertIn(elsewhere(file.tell), (512, 1024))
+            self.assertEqual(elsewhere(lambda: file.seek(1024)), 1024)
+            place += 1
+        self.assertGreater(place, 25)
+
+    def test_an_alarm(self):
+        """What a handler raises while a block is read isn't lost, whatever it is, and neither are the bytes."""
+        image, left = Image(19, 20), [0]
+
+        class Slow(io.BytesIO):
+            def read(self, size=-1):
+                left[0] -= 1
+                if left[0] == 0:
+                    signal.raise_signal(signal.SIGALRM)
+                return super().read(size)
+
+        def ring(_number, _frame):
+            raise kind("it takes too long")
+
+        before = signal.signal(signal.SIGALRM, ring)
+        try:
+            for kind in TimeoutError, ValueError, StopIteration, KeyboardInterrupt:
+                # 20 data blocks and three hash blocks are read.
+                for left[0] in range(1, 24):
+                    files = Slow(image.data), Slow(image.hashes)
+                    file, found = verity.CheckedFile(*files, image.params, image.root), b""
+                    with self.assertRaisesRegex(kind, "it takes too long"):
+                        for _ in range(20):
+                            found += file.read(2000)
+                    self.assertEqual(found + file.read(), image.data)
+        finally:
+            signal.signal(signal.SIGALRM, before)
 
     def test_no_bytes_yet(self):
         image, silent = Image(17, 20), [False]

@@ -4,13 +4,13 @@ from __future__ import annotations
 
 import io
 import operator
-import threading
 from ctypes import byref, c_size_t, c_uint64
-from typing import TYPE_CHECKING, Any, Optional, Protocol
+from typing import TYPE_CHECKING, Any, Callable, Optional, Protocol
 
 from . import _library
-from ._errors import BadRootLength, check_at, error
+from ._errors import BadRootLength, Error, check_at, error
 from ._library import unsigned, view, whole_bytes
+from ._locks import Lock
 from ._params import Params
 
 if TYPE_CHECKING:
@@ -59,8 +59,9 @@ class CheckedFile(io.RawIOBase):
             raise error(BadRootLength.status)
         self._size = params.data_blocks * params.data_block_size
         self._place = 0
-        self._is_reading = False
-        self._lock = threading.RLock()
+        self._lock = Lock()
+        # What ended a read that had bytes to hand out, and isn't raised yet.
+        self._late: Optional[OSError] = None
         # The latest hash block of each level that was accepted, with its start; and the latest data block.
         self._accepted: dict[int, tuple[int, bytes]] = {}
         self._latest: Optional[tuple[int, bytes]] = None
@@ -77,24 +78,12 @@ class CheckedFile(io.RawIOBase):
 
     def seek(self, offset: int, whence: int = io.SEEK_SET, /) -> int:
         self._check_open()
-        offset = operator.index(offset)
-        with self._lock:
-            self._check_idle()
-            begin = {io.SEEK_SET: 0, io.SEEK_CUR: self._place, io.SEEK_END: self._size}.get(whence)
-            if begin is None or begin + offset < 0:
-                raise ValueError(f"no such place: {offset}, {whence}")
-            self._place = begin + offset
-            return self._place
+        return self._alone(self._seek, operator.index(offset), whence)
 
     def readinto(self, buffer: WriteableBuffer, /) -> int:
         self._check_open()
-        with memoryview(buffer).cast("B") as room, self._lock:
-            self._check_idle()
-            try:
-                self._is_reading = True
-                return self._fill(room)
-            finally:
-                self._is_reading = False
+        with memoryview(buffer).cast("B") as room:
+            return self._alone(self._fill, room)
 
     def __reduce__(self) -> Any:
         raise TypeError(f"a {type(self).__name__} can't be pickled or copied")
@@ -103,22 +92,36 @@ class CheckedFile(io.RawIOBase):
         if self.closed:
             raise ValueError("the file is closed")
 
-    def _check_idle(self) -> None:
+    def _alone(self, function: Callable[..., int], *words: Any) -> int:
         """The lock keeps other threads away. A handler of a signal, or what reads the files, could still come here, and
         would take the files from under the read that isn't over."""
-        if self._is_reading:
+        if self._lock.is_mine():
             raise RuntimeError("the file is already being read, by a call that isn't over")
+        return self._lock.call(function, *words)
+
+    def _seek(self, offset: int, whence: int) -> int:
+        begin = {io.SEEK_SET: 0, io.SEEK_CUR: self._place, io.SEEK_END: self._size}.get(whence)
+        if begin is None or begin + offset < 0:
+            raise ValueError(f"no such place: {offset}, {whence}")
+        self._place = begin + offset
+        return self._place
 
     def _fill(self, room: memoryview) -> int:
+        if self._late is not None:
+            late, self._late = self._late, None
+            raise late
         place, count = self._place, 0
         while count < len(room) and place + count < self._size:
             index, begin = divmod(place + count, self._params.data_block_size)
             try:
                 block = self._block(index)
-            except Exception:
-                if count > 0:
-                    break
-                raise
+            except (Error, OSError) as fault:
+                if count == 0:
+                    raise
+                # An `Error` comes again. An OSError may not: it may be the TimeoutError of a signal's handler.
+                if isinstance(fault, OSError):
+                    self._late = fault
+                break
             piece = block[begin : begin + len(room) - count]
             room[count : count + len(piece)] = piece
             count += len(piece)

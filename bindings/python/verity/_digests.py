@@ -2,7 +2,6 @@
 
 from __future__ import annotations
 
-import threading
 from ctypes import addressof, byref, c_size_t, c_uint32, create_string_buffer, sizeof
 from typing import TYPE_CHECKING, Any, Optional, Protocol, TypeVar
 
@@ -10,6 +9,7 @@ from . import _library
 from ._algorithms import algorithm_name, algorithm_number, digest_size
 from ._errors import check
 from ._library import FsverityParams, file_feed, unsigned, view, whole_bytes
+from ._locks import Lock
 
 if TYPE_CHECKING:
     from _typeshed import ReadableBuffer
@@ -30,7 +30,7 @@ class _State:
         self.params = FsverityParams.from_buffer(self.whole)
         self.memory = addressof(self.whole) + sizeof(self.params)
         self.length = len(whole) - sizeof(self.params)
-        self.lock = threading.RLock()
+        self.lock = Lock()
 
     @classmethod
     def begun(cls, params: FsverityParams) -> _State:
@@ -48,19 +48,16 @@ class _State:
             at, length = data, len(data)
         else:
             _view, at, length = view(data)
-        with self.lock:
-            return file_feed(self.params, self.memory, self.length, at, length)
+        return self.lock.call(file_feed, self.params, self.memory, self.length, at, length)
 
     def end(self, size: int) -> bytes:
         root, digest = create_string_buffer(size), create_string_buffer(size)
-        with self.lock:
-            check(_library.file_end(self.params, self.memory, self.length, root, size, digest, size))
+        words = self.params, self.memory, self.length, root, size, digest, size
+        check(self.lock.call(_library.file_end, *words))
         return digest.raw
 
     def copy(self) -> _State:
-        with self.lock:
-            whole = self.whole.raw
-        return _State(whole)
+        return _State(self.lock.call(getattr, self.whole, "raw"))
 
 
 class FileDigest:

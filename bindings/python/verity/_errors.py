@@ -37,7 +37,9 @@ class BadRootLength(Error):
     status = -5
 
 
-class BadHashAlgorithm(Error):
+class BadHashAlgorithm(Error, ValueError):
+    """A ValueError too, as in hashlib."""
+
     status = -6
 
 

@@ -125,9 +125,9 @@ file_end = _function("fsverity_build_end", _FILE, *_BYTES, *_BYTES, *_BYTES)
 
 # Functions of their own: those that are attributes of pythonapi are everybody's, with their types. They are called with
 # the interpreter's lock, and raise its exceptions.
-_method = ctypes.pythonapi["PyInstanceMethod_New"]
-_method.argtypes = (ctypes.py_object,)
-_method.restype = ctypes.py_object
+method = ctypes.pythonapi["PyInstanceMethod_New"]
+method.argtypes = (ctypes.py_object,)
+method.restype = ctypes.py_object
 _release_buffer = ctypes.pythonapi["PyBuffer_Release"]
 _release_buffer.restype = None
 
@@ -150,7 +150,7 @@ class View(Structure):
     ]
 
     # No code of Python: there a Ctrl-C would be swallowed, and the object would stay locked.
-    __del__ = _method(_release_buffer)
+    __del__ = method(_release_buffer)
 
 
 _get_buffer = ctypes.pythonapi["PyObject_GetBuffer"]

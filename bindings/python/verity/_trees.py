@@ -2,14 +2,14 @@
 
 from __future__ import annotations
 
-import threading
-from ctypes import byref, c_size_t, create_string_buffer
+from ctypes import Array, byref, c_char, c_size_t, create_string_buffer
 from dataclasses import dataclass
 from typing import TYPE_CHECKING, Any
 
 from . import _library
 from ._errors import check
 from ._library import VerityBuild, VerityFed, view
+from ._locks import Lock
 from ._params import Params
 
 if TYPE_CHECKING:
@@ -59,29 +59,29 @@ class _State:
         self.params = params
         self.build = VerityBuild()
         self.memory = create_string_buffer(length.value)
-        self.lock = threading.RLock()
+        self.lock = Lock()
         # Whether a call to `feed` was left before all that it closed was handed out.
         self.is_cut = False
         check(_library.build_begin(params._struct, self.build, self.memory, length))
 
     def feed(self, data: ReadableBuffer, found: list[HashBlock]) -> int:
         """Feeds the whole piece, and answers the status. A view ends with this call."""
-        _view, at, left = view(data)
+        _view, at, length = view(data)
+        return self.lock.call(self.feed_alone, at, length, found)
+
+    def feed_alone(self, at: Any, left: int, found: list[HashBlock]) -> int:
         fed = VerityFed()
-        with self.lock:
-            self.check_whole()
-            self.is_cut = True
-            while True:
-                status = _library.build_feed(
-                    self.params._struct, self.build, self.memory, len(self.memory), at, left, fed
-                )
-                if status or fed.block_length == 0:
-                    break
-                found.append(self.handed_out(fed))
-                if fed.taken:
-                    at, left = at + fed.taken, left - fed.taken
-            # What is refused is refused at the first call, and then nothing has changed.
-            self.is_cut = False
+        self.check_whole()
+        self.is_cut = True
+        while True:
+            status = _library.build_feed(self.params._struct, self.build, self.memory, len(self.memory), at, left, fed)
+            if status or fed.block_length == 0:
+                break
+            found.append(self.handed_out(fed))
+            if fed.taken:
+                at, left = at + fed.taken, left - fed.taken
+        # What is refused is refused at the first call, and then nothing has changed.
+        self.is_cut = False
         return status
 
     def handed_out(self, fed: VerityFed) -> HashBlock:
@@ -90,14 +90,12 @@ class _State:
 
     def end(self) -> bytes:
         root = create_string_buffer(self.params.digest_size)
-        with self.lock:
-            self.check_whole()
-            check(
-                _library.build_end(
-                    self.params._struct, self.build, self.memory, len(self.memory), root, len(root)
-                )
-            )
+        check(self.lock.call(self.end_alone, root))
         return root.raw
+
+    def end_alone(self, root: Array[c_char]) -> int:
+        self.check_whole()
+        return _library.build_end(self.params._struct, self.build, self.memory, len(self.memory), root, len(root))
 
     def check_whole(self) -> None:
         if self.is_cut:
