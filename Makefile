@@ -143,6 +143,7 @@ reproducible: programs
 INSTALLING = install uninstall install-library uninstall-library install-python uninstall-python
 $(INSTALLING): export TARGET := $(TARGET)
 $(INSTALLING): export STATIC := $(STATIC)
+$(INSTALLING): export CPU := $(GIVEN_CPU)
 $(INSTALLING): export PREFIX := $(PREFIX)
 $(INSTALLING): export DESTDIR := $(DESTDIR)
 $(INSTALLING): export BINDIR := $(BINDIR)

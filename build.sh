@@ -22,9 +22,8 @@ wrong=$(in_order "$target" "$cpu" "$static") || refuse "$wrong"
 folder=${BIN:-$(place "$target" "$static")}
 prefix=$(prefix_of "$target")
 # For which processors the program has code, and what it is called.
-processors=("${cpu:-$target}") kind=${cpu:-$target}
+processors=("${cpu:-$target}") kind=$(kind_of "$target" "$cpu" "$static")
 if [ "$cpu" = any ]; then processors=("${levels[@]}"); fi
-if [ "$static" = yes ]; then kind+=', static'; fi
 # How the C compiler links it, if it does.
 by_compiler=no linking=(-fPIE -pie)
 if [ "$static" = yes ]; then linking=(-fPIE -static-pie); fi

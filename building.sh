@@ -18,10 +18,18 @@ header_version() {
     awk '/^#define VERITY_VERSION_/ { printf "%s%s", dot, $3; dot = "." }'
 }
 
-# sources: prints the sum of the toolchain and of all that the crates are built of.
+# sources: prints the sum of the toolchain and of all that the crates are built of, whatever the user's locale.
 sources() {
-    { rt version && find crates.txt crates/*/{src,specs,proofs} -type f -print0 2>/dev/null | sort -z | xargs -0 sha256sum; } |
-        sha256sum
+    { rt version && find crates.txt crates/*/{src,specs,proofs} -type f -print0 2>/dev/null | LC_ALL=C sort -z |
+        xargs -0 sha256sum; } | sha256sum
+}
+
+# archived WORD..: writes an archive of what was committed, by `git archive` with these words. What the user, the system
+# and this clone have set for archives changes nothing: one of its own, in $scratch, has no settings.
+archived() {
+    if [ ! -e "$scratch/clone" ]; then git clone -q --bare --shared --template= . "$scratch/clone"; fi
+    GIT_ATTR_NOSYSTEM=1 git -C "$scratch/clone" -c tar.umask=0022 -c core.autocrlf=false \
+        -c core.attributesFile=/dev/null archive --format=tar "$@"
 }
 
 # name_proved: reads what `rt` says, and names each crate that it has proved.
@@ -101,6 +109,13 @@ in_order() {
     yes | no) ;;
     *) echo 'STATIC is yes or no' && return 1 ;;
     esac
+}
+
+# kind_of TARGET CPU STATIC: prints what a program is called that is built by this description.
+kind_of() {
+    local kind=${2:-$1}
+    if [ "$3" = yes ]; then kind+=', static'; fi
+    echo "$kind"
 }
 
 # place TARGET STATIC: prints the folder of programs: bin, bin/static, bin/aarch64 or bin/aarch64/static.

@@ -1,8 +1,8 @@
 #!/usr/bin/env bash
 # deb.sh: makes Debian's packages of what is committed, for amd64 and arm64, and their source package, in the folder
 # DIST, and prints the names. Programs and libraries that aren't built yet are built first; the packages are those that
-# debian/ describes. As long as CHANGELOG.md says that the version isn't released, theirs is an earlier one that has the
-# commit's date and number. The same commit gives the same bytes, as release.sh has it, by the same debhelper and dpkg.
+# debian/ describes. Their version is that of the archive of the sources, which dist.sh makes and which is part of the
+# source package. The same commit gives the same bytes, as release.sh has it, by the same debhelper and dpkg.
 set -euo pipefail
 cd "$(dirname "$0")"
 . ./releasing.sh
@@ -28,21 +28,17 @@ sources=$(DIST=$scratch ./dist.sh)
 version=${sources##*/verity-}
 version=${version%.tar.gz}
 time=$(dpkg-parsechangelog -S Timestamp)
-is_released=yes
-if [ "$version" != "$release" ]; then
-    is_released=no
-    time=$(git show -s --format=%ct HEAD)
-    version="$release~$(date -u -d "@$time" +%Y%m%d).${version#*+}"
-fi
+if [ "$version" != "$release" ]; then time=$(git show -s --format=%ct HEAD); fi
 export SOURCE_DATE_EPOCH=$time
 mv "$sources" "$scratch/verity_$version.orig.tar.gz"
 
-# unpacks FOLDER: unpacks the sources, with the version and the time of the packages.
+# unpacks FOLDER: unpacks the sources, and debian/ with the version and the time of the packages.
 unpacks() {
     local to=$scratch/$1/verity-$version
     mkdir -p "$to"
     tar -xzf "$scratch/verity_$version.orig.tar.gz" -C "$to" --strip-components=1
-    if [ $is_released = no ]; then
+    archived HEAD debian | tar -x -C "$to"
+    if [ "$version" != "$release" ]; then
         sed -i -e "1s/(.*)/($version-${debian##*-})/" \
             -e "0,/^ -- /s/^\( -- .*>  \).*/\1$(date -u -R -d "@$time")/" "$to/debian/changelog"
     fi

@@ -4,13 +4,13 @@
 # SBINDIR, MANDIR, BASHCOMPDIR, ZSHCOMPDIR, FISHCOMPDIR, LIBDIR and INCLUDEDIR are folders in place of those below
 # PREFIX, and DESTDIR stands before them too. A folder that is there keeps its mode. With STRIP=yes the programs and the
 # shared libraries are stripped. With TARGET=aarch64 it is the programs of bin/aarch64, and with STATIC=yes those of
-# bin/static or bin/aarch64/static. The pages and the completion speak of the programs by these names. If the library
-# for C is built for TARGET, that goes there too, by its own names, with its header, its page, also under the name of
-# each function, and what pkg-config says of it. install.sh install-library|uninstall-library does this with the library
-# alone. Its page speaks of the programs by their plain names then. One target's library doesn't take the place of
-# another's, and isn't removed in place of it. install.sh install-python|uninstall-python does it with the module of
-# bindings/python, below DESTDIR in PYTHONDIR, or where the interpreter PYTHON looks for what is installed. Nothing is
-# built here, so that no proof runs as root.
+# bin/static or bin/aarch64/static. With CPU those that are built for another processor are refused. The pages and the
+# completion speak of the programs by these names. If the library for C is built for TARGET, that goes there too, by its
+# own names, with its header, its page, also under the name of each function, and what pkg-config says of it. install.sh
+# install-library|uninstall-library does this with the library alone. Its page speaks of the programs by their plain
+# names then. One target's library doesn't take the place of another's, and isn't removed in place of it. install.sh
+# install-python|uninstall-python does it with the module of bindings/python, below DESTDIR in PYTHONDIR, or where the
+# interpreter PYTHON looks for what is installed. Nothing is built here, so that no proof runs as root.
 set -euo pipefail
 cd "$(dirname "$0")"
 . ./building.sh
@@ -39,6 +39,7 @@ aarch64)
 *) refuse 'TARGET is x86_64 or aarch64' ;;
 esac
 programs=$(place "$TARGET" "$STATIC")
+if [ -n "${CPU:=}" ]; then wrong=$(in_order "$TARGET" "$CPU" "$STATIC") || refuse "$wrong"; fi
 for name in PREFIX BINDIR SBINDIR MANDIR BASHCOMPDIR ZSHCOMPDIR FISHCOMPDIR LIBDIR INCLUDEDIR PYTHONDIR; do
     case ${!name-/} in
     '' | /*) ;;
@@ -128,6 +129,21 @@ lacks() {
     return 1
 }
 
+# is_for FILE KIND MAKE: refuses a file that is of another kind, if a CPU is asked for.
+is_for() {
+    if [ -n "$CPU" ] && [ "$(head -n 1 "$1.made" 2>/dev/null)" != "$2" ]; then
+        refuse "$1 isn't built with CPU=$CPU: run '$3' first"
+    fi
+}
+
+# making GOAL: prints by which command of make that is built.
+making() {
+    local make="make $1"
+    if [ "$TARGET" != x86_64 ]; then make+=" TARGET=$TARGET"; fi
+    if [ "$1:$STATIC" = programs:yes ]; then make+=' STATIC=yes'; fi
+    echo "$make${CPU:+ CPU=$CPU}"
+}
+
 # installed_target: prints for which target a library is installed there, if one is: a file of pkg-config that doesn't
 # say so is of an older version, which was for x86_64 alone. A header of this name may be another library's.
 installed_target() {
@@ -137,9 +153,10 @@ installed_target() {
     echo "${there:-x86_64}"
 }
 
-# takes_place: refuses to install over the library for another target.
+# takes_place: refuses to install over the library for another target, or one for another processor.
 takes_place() {
     local there
+    is_for "$built/libverity.a" "${CPU/any/x86-64}" "$(making library)"
     there=$(installed_target)
     if [ "${there:-$TARGET}" != "$TARGET" ]; then
         refuse "the library in $libraries is for $there: give that for $TARGET a LIBDIR of its own"
@@ -172,8 +189,8 @@ remove_library() {
 
 install_library() {
     # There may be no programs beside it, so its page names them by their plain names.
-    local make='make library' file suffix=
-    if [ "$TARGET" != x86_64 ]; then make+=" TARGET=$TARGET"; fi
+    local make file suffix=
+    make=$(making library)
     if lacks "${archives[@]}" >/dev/null; then refuse "run '$make' first"; fi
     if file=$(lacks "${shared[@]}"); then refuse "$file isn't built: install $compiler and run '$make' first"; fi
     takes_place
@@ -224,10 +241,12 @@ uninstall_python() {
 }
 
 install_all() {
-    local make='make programs' name section file has_library=no
-    if [ "$TARGET" != x86_64 ]; then make+=" TARGET=$TARGET"; fi
-    if [ "$STATIC" = yes ]; then make+=' STATIC=yes'; fi
+    local make name section file has_library=no
+    make=$(making programs)
     if [ ! -x "$programs/fsverity" ] || [ ! -x "$programs/veritysetup" ]; then refuse "run '$make' first"; fi
+    for name in "$programs/"{fsverity,veritysetup}; do
+        is_for "$name" "$(kind_of "$TARGET" "$CPU" "$STATIC")" "$make"
+    done
     if ! lacks "${archives[@]}" >/dev/null; then
         if file=$(lacks "${shared[@]}"); then
             echo "$file isn't built, so the library is left out" >&2

@@ -91,18 +91,17 @@ asks_for() {
     readelf -V "$1" | grep -o 'GLIBC_[0-9.]*' | sort -uV | tail -n 1
 }
 
-# archive_for HEADING: the archive's name, with COMMIT for the commit's number, where the changes begin by this heading
-# and are longer than a pipe holds.
+# archive_for HEADING: the archive's name, with COMMIT for the commit's date and number, where the changes begin by this
+# heading and are longer than a pipe holds.
 archive_for() {
-    local clone=$scratch/headed commit
+    local clone=$scratch/headed
     if [ ! -e "$clone" ]; then
         git clone -q . "$clone" 2>/dev/null
         seq 100000 >>"$clone/CHANGELOG.md"
     fi
     sed -i "0,/^## .*/s//## $1/" "$clone/CHANGELOG.md"
     git -C "$clone" -c user.name=name -c user.email=name@localhost commit -qam "$1" --allow-empty
-    commit=$(git -C "$clone" rev-parse HEAD | cut -c 1-12)
-    make -s -C "$clone" --no-print-directory dist | sed "s/$commit/COMMIT/"
+    make -s -C "$clone" --no-print-directory dist | sed "s/$(commit_in "$clone")/COMMIT/"
 }
 
 # finds_page FOLDER SECTION NAME: man finds the installed page.
@@ -251,19 +250,41 @@ kind_installs() {
 library_target=x86_64 kind_installs bin/static 'make install STATIC=yes' STATIC=yes
 library_target=aarch64 kind_installs bin/aarch64 'make install for 64-bit ARM' TARGET=aarch64
 library_target=aarch64 kind_installs bin/aarch64/static 'make install for 64-bit ARM, static' TARGET=aarch64 STATIC=yes
+# With CPU what is built for another processor is refused, programs or library.
+echo x86-64-v2 | tee "$scratch/empty/bin/"{fsverity,veritysetup}.made >/dev/null
+echo 'any, static' | tee "$scratch/empty/bin/static/"{fsverity,veritysetup}.made >/dev/null
+echo x86-64 >"$scratch/empty/lib/libverity.a.made"
+refuses 'programs for another processor' "bin/fsverity isn't built with CPU=any: run 'make programs CPU=any' first" \
+    -C "$scratch/empty" install CPU=any
+refuses 'the library for another processor' \
+    "lib/libverity.a isn't built with CPU=x86-64-v2: run 'make library CPU=x86-64-v2' first" \
+    -C "$scratch/empty" install CPU=x86-64-v2
+runs 'what is for every processor' 0 '' '' \
+    make -s -C "$scratch/empty" --no-print-directory install STATIC=yes CPU=any DESTDIR="$scratch/for_any"
+runs 'a CPU in the environment' 0 '' '' \
+    env CPU=any make -s -C "$scratch/empty" --no-print-directory install DESTDIR="$scratch/for_any"
+refuses 'another CPU' 'CPU is x86-64, x86-64-v2, x86-64-v3 or any' install CPU=x86-64-v4
 refuses 'a STATIC that is neither yes nor no' 'STATIC is yes or no' install STATIC=1
 refuses 'another TARGET' 'TARGET is x86_64 or aarch64' install TARGET=arm
 
-# The archive of the sources: the same bytes from a clone, later and with other settings, and what was committed.
+# The archive of the sources: the same bytes from a clone, later and with other settings, and what was committed, but
+# debian/. Only the first commit in which the version has a date has an archive without the commit's number.
 if [ -e .git ] && command -v git >/dev/null; then
-    name=verity-$(git show HEAD:include/verity.h | header_version)
-    same 'make dist: a version that is released' "dist/$name.tar.gz" "$(archive_for '2.0.0 (2026-11-30)')"
-    same 'make dist: one that is not' "dist/$name+COMMIT.tar.gz" "$(archive_for '2.0.0 (not yet released)')"
-    same 'make dist: one without a number' "dist/$name+COMMIT.tar.gz" "$(archive_for 'Not yet released')"
-    if git show HEAD:CHANGELOG.md | grep -qi '^## .*not yet released'; then
-        name+=+$(git rev-parse HEAD | cut -c 1-12)
-    fi
-    runs 'make dist' 0 "$scratch/dist/$name.tar.gz" '' make -s --no-print-directory dist DIST="$scratch/dist"
+    number=$(git show HEAD:include/verity.h | header_version)
+    name=verity-$number
+    same 'make dist: before the release' "dist/$name~COMMIT.tar.gz" "$(archive_for "$number (not yet released)")"
+    same 'make dist: without a number' "dist/$name~COMMIT.tar.gz" "$(archive_for 'Not yet released')"
+    same 'make dist: the release' "dist/$name.tar.gz" "$(archive_for "$number (2026-11-30)")"
+    same 'make dist: after the release' "dist/$name+COMMIT.tar.gz" "$(archive_for "$number (2026-11-30)")"
+    same 'make dist: another date' "dist/$name+COMMIT.tar.gz" "$(archive_for "$number (2026-12-01)")"
+    git clone -q --depth 1 "file://$scratch/headed" "$scratch/shallow"
+    runs 'make dist, without the commit before' 2 '' any make -s -C "$scratch/shallow" --no-print-directory dist
+    same 'make dist, without the commit before: why' \
+        "dist.sh: commit $(git -C "$scratch/headed" rev-parse HEAD^) isn't here, so none is the release" \
+        "$(head -n 1 "$scratch/.err")"
+    runs 'make dist' 0 any '' make -s --no-print-directory dist DIST="$scratch/dist"
+    name=$(basename "$(cat "$scratch/.out")" .tar.gz)
+    same 'make dist: its name' "verity-$number" "${name%[~+]"$(commit_in .)"}"
     git clone -q . "$scratch/clone" 2>/dev/null
     git -C "$scratch/clone" config tar.umask 0077
     mkdir -p "$scratch/home/.config/git"
@@ -281,7 +302,7 @@ if [ -e .git ] && command -v git >/dev/null; then
     mkdir "$scratch/unpacked"
     tar -xzf "$scratch/dist/$name.tar.gz" -C "$scratch/unpacked"
     same 'make dist: its folder' "$name" "$(ls "$scratch/unpacked")"
-    rm -rf "$scratch/clone/dist" "$scratch/clone/.git"
+    rm -rf "$scratch/clone/"{dist,debian,.git}
     runs 'make dist: what was committed' 0 '' '' diff -r "$scratch/clone" "$scratch/unpacked/$name"
     runs 'make dist, without a repository' 2 '' any make -s -C "$scratch/unpacked/$name" --no-print-directory dist
 else

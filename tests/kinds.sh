@@ -54,6 +54,15 @@ runs 'another processor' 1 '' 'build.sh: CPU is x86-64, x86-64-v2, x86-64-v3 or 
 runs 'a processor for 64-bit ARM' 1 '' 'build.sh: CPU is for x86_64 alone' builds TARGET=aarch64 -- any
 runs 'a STATIC that is neither yes nor no' 1 '' 'build.sh: STATIC is yes or no' builds STATIC=1 --
 
+# sources_in LOCALE: the sum of what is built, with a `sort` that goes by the locale: backwards, if it isn't C.
+sources_in() {
+    (cd "$copy" && PATH=$scratch/sorting:$tools LC_ALL=$1 bash -c '. ./building.sh && sources')
+}
+mkdir "$scratch/sorting"
+printf '%s\n' '#!/bin/sh' '[ "$LC_ALL" = C ] || set -- -r "$@"' "exec $(type -P sort) \"\$@\"" >"$scratch/sorting/sort"
+chmod +x "$scratch/sorting/sort"
+same 'sources in another locale' "$(sources_in C)" "$(sources_in C.UTF-8)"
+
 # lacks NAME TOOL SETTING.. -- [CPU]: without a compiler it is said before anything is proved, and what is there stays.
 lacks() {
     local name=$1 tool=$2 usual=$tools

@@ -1,7 +1,7 @@
 #!/usr/bin/env bash
-# Checks the manual pages: mandoc has nothing to say of them, their examples run, their lists of messages are those of
-# the programs' sources, each under the status that the soak expects with it, and their options are those of the
-# programs' usages.
+# Checks the manual pages: mandoc has nothing to say of them, they have the date of the version's release, their examples
+# run, their lists of messages are those of the programs' sources, each under the status that the soak expects with it,
+# and their options are those of the programs' usages.
 set -u
 cd "$(dirname "$0")/.."
 . tests/lib/checks.sh
@@ -91,6 +91,18 @@ messages man/veritysetup.8 veritysetup
 messages man/fsverity.1 fsverity
 same 'options of man/veritysetup.8' "$(usage_options veritysetup format dump verify)" "$(page_options man/veritysetup.8)"
 same 'options of man/fsverity.1' "$(usage_options fsverity digest)" "$(page_options man/fsverity.1)"
+# As long as the version has no date, they aren't older than the release before.
+release=$(sed -nE 's/^## [0-9.]+ \(([0-9-]+)\)$/\1/p' CHANGELOG.md | head -n 1)
+for page in man/*; do
+    date=$(date -u -d "$(sed -n 's/^\.Dd //p' "$page")" +%F)
+    if grep -m 1 '^## ' CHANGELOG.md | grep -qF "($release)"; then
+        same "$page: its date" "$release" "$date"
+    elif [[ $date < $release ]]; then
+        fail "$page: its date" "expected: not before $release" "found:    $date"
+    else
+        pass
+    fi
+done
 if command -v mandoc >/dev/null; then
     same 'mandoc -T lint' '' "$(mandoc -T lint -W style man/*.[18] 2>/dev/null)"
 else

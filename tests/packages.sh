@@ -1,7 +1,7 @@
 #!/usr/bin/env bash
 # `make deb` makes the same packages of a commit in two folders, whatever the user has set. Their files, what they
-# depend on and their version are those of docs/PACKAGING.md, and lintian has no error and no warning. For each
-# architecture dpkg installs them into a root that has a C library alone; there the programs run, and debian/tests with
+# depend on and their version are those of docs/PACKAGING.md, and lintian has no error and no warning, of those of a
+# release either. For each architecture dpkg installs them into a root that has a C library alone; there the programs run, and debian/tests with
 # what stands there, for arm64 by qemu; and once they are purged the root is what it was.
 set -u
 cd "$(dirname "$0")/.."
@@ -17,6 +17,10 @@ needs readelf binutils
 needs aarch64-linux-gnu-gcc gcc-aarch64-linux-gnu
 needs qemu-aarch64 qemu-user
 needs pkg-config pkg-config
+if [ ! -e debian ]; then
+    echo "$0: debian/ isn't here, as in the archive of the sources"
+    exit $LEFT_OUT
+fi
 has_programs deb bin/any bin/aarch64
 needs_root
 
@@ -62,8 +66,7 @@ rm -rf "$other"
 
 # The other is made later, by a user with other settings.
 cp -r "$one" "$other"
-version=$release~$(TZ=UTC git -C "$one" show -s --date=format-local:%Y%m%d --format=%cd).$(
-    git -C "$one" rev-parse HEAD | cut -c 1-12)
+version=$release~$(commit_in "$one")
 makes 'make deb' "$one" "$debs" "$version"
 if [ ! -e "$debs" ]; then
     cat "$scratch/.made"
@@ -82,11 +85,17 @@ same 'make deb, elsewhere: status' 0 $?
 for file in $(names "$version"); do same_bytes "make deb, elsewhere: $file" "$debs/$file" "$other/dist/$file"; done
 headed "$other" "$release (2026-11-30)"
 makes 'make deb, of a version that is released' "$other" "$scratch/released" "$release"
+runs 'make dist, of the same commit' 0 any '' make -s -C "$other" --no-print-directory dist DIST="$scratch/dist"
+same_bytes 'make dist, of the same commit' "$scratch/dist/verity-$release.tar.gz" \
+    "$scratch/released/verity_$release.orig.tar.gz"
 runs 'a version that is released comes after what was before' 0 '' '' \
     dpkg --compare-versions "$version-$revision" lt "$release-$revision"
+runs 'what comes after a version that is released' 0 '' '' \
+    dpkg --compare-versions "$release-$revision" lt "$release+$(commit_in "$other")-$revision"
 
 runs 'lintian: errors, warnings, and what is overridden' 0 '' '' \
-    lintian --allow-root --no-cfg --show-overrides --fail-on error,warning,override "$debs"/*.{deb,dsc}
+    lintian --allow-root --no-cfg --show-overrides --fail-on error,warning,override \
+    "$debs"/*.{deb,dsc} "$scratch/released"/*.{deb,dsc}
 
 # package NAME: the file of a package for the architecture.
 package() {

@@ -17,10 +17,8 @@ needs_root
 
 one=$scratch/one other=$scratch/other
 as_a_commit "$one"
-commit=$(git -C "$one" rev-parse HEAD)
 name=$(header_version <include/verity.h)
-name=verity-$name+${commit:0:12}
-if ! grep -qi '^## .*not yet released' CHANGELOG.md; then name=${name%+*}; fi
+if grep -qE "^## $name \([0-9-]+\)$" CHANGELOG.md; then name=verity-$name; else name=verity-$name~$(commit_in "$one"); fi
 archives=("$name"{,-x86_64,-aarch64}.tar.gz)
 
 : >"$one/crates/new"

@@ -24,8 +24,12 @@ fn main() {
         println!("cargo:rustc-link-lib=static=verity");
         search(&folders);
     } else {
+        let folder = linked(&folders);
         println!("cargo:rustc-link-lib=dylib=verity");
-        search(&[linked(&folders)]);
+        // For this crate's own tests and examples: older versions of cargo don't tell the loader of those in the
+        // documentation where the library is.
+        println!("cargo:rustc-link-arg=-Wl,-rpath,{}", folder.display());
+        search(&[folder]);
     }
 }
 

@@ -79,15 +79,15 @@ same 'unsafe without its reason' '' "$(awk '/unsafe \{/ && !has_reason { print F
 
 # --------------------------------------------------- Tests ----------------------------------------------------
 
-tests 'shared, with std' 11 --lib --tests
-tests 'shared, without std' 7 --no-default-features --test refused
+# With the examples of the documentation, and the promises. Which error a program that doesn't compile has is compared
+# only where unstable features may be used.
+RUSTC_BOOTSTRAP=1 tests 'all, shared, with std' 37
+tests 'all, shared, without std' 30 --no-default-features
 CASES=8 in_static tests 'static' 3 --test debian
-# Which error a program that doesn't compile has is compared only where unstable features may be used. Cargo doesn't
-# tell the loader of examples where the library is.
-mkdir "$scratch/.loaded"
-cp "$LIB/libverity.so.2" "$scratch/.loaded"
-LD_LIBRARY_PATH=$scratch/.loaded RUSTC_BOOTSTRAP=1 CARGO_TARGET_DIR=$scratch/promises \
-    tests 'examples of the documentation, and promises' 26 --doc
+PATH=$(path_without fsverity) cargo test "${manifest[@]}" --locked --test debian files >"$scratch/.tests" 2>&1 </dev/null
+same "without Debian's programs: status" 101 $?
+same "without Debian's programs" 1 \
+    "$(grep -c 'install cryptsetup-bin and fsverity: the tests compare with their programs' "$scratch/.tests")"
 RUSTDOCFLAGS='-D warnings' runs 'the documentation' 0 '' '' cargo doc "${manifest[@]}" --locked --no-deps
 runs 'the documentation is there' 0 any '' ls "$CARGO_TARGET_DIR/doc/verity/struct.Block.html"
 
@@ -113,6 +113,8 @@ no_std '"std"'
 same 'with std there are two panic handlers' yes \
     "$(grep -q '^error\[E0152\].*panic_impl' "$scratch/.no_std" && echo yes)"
 
+mkdir "$scratch/.loaded"
+cp "$LIB/libverity.so.2" "$scratch/.loaded"
 # valgrind sees what the library reads and writes, which a sanitizer sees only where it has compiled the code.
 # That it sees such a read in a program of Rust is shown first: what is said to be a root hash of 64 bytes has fewer.
 if command -v valgrind >/dev/null; then

@@ -167,6 +167,11 @@ header_version() {
     awk '/^#define VERITY_VERSION_/ { printf "%s%s", dot, $3; dot = "." }'
 }
 
+# commit_in FOLDER: prints date and number of the commit there, as the names of archives have them.
+commit_in() {
+    TZ=UTC git -C "$1" show -s --date=format-local:git%Y%m%d --format=%cd.%H | cut -c 1-24
+}
+
 # with_closed STREAMS COMMAND..: runs a command with these standard streams closed.
 with_closed() {
     local stream

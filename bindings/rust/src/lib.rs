@@ -3,13 +3,15 @@
 //! takes, is said in `include/verity.h` and in verity(3); here stand its names. This prints a file's digest:
 //!
 //! ```
+//! # #[cfg(feature = "std")] {
 //! use std::{fs::File, io};
 //! use verity::{FileDigest, FileSettings};
 //!
 //! let mut digest = FileDigest::new(&FileSettings::default())?;
 //! io::copy(&mut File::open("Cargo.toml")?, &mut digest)?;
 //! println!("{}", digest.digest()?);
-//! # Ok::<(), io::Error>(())
+//! # }
+//! # Ok::<(), std::io::Error>(())
 //! ```
 //!
 //! - [`Params`] and [`FileParams`] are checked when they are made, of a superblock or of [`Settings`] and

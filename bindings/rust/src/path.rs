@@ -69,6 +69,7 @@ impl<'a, T: Tree> Path<'a, T> {
     /// use std::io::{self, Read, Seek, SeekFrom};
     /// use verity::{Params, Path};
     ///
+    /// # #[cfg(feature = "std")]
     /// fn path_of<'a>(params: &'a Params, index: u64, device: &mut std::fs::File) -> io::Result<Path<'a, Params>> {
     ///     Path::read(params, index, |start, bytes| {
     ///         device.seek(SeekFrom::Start(start))?;

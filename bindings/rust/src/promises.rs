@@ -83,6 +83,7 @@ struct Changed;
 ///     Ok(first[0] ^ second[0])
 /// }
 /// ```
+#[cfg(feature = "std")]
 struct Overwritten;
 
 /// Settings that weren't checked aren't parameters.

@@ -4,7 +4,7 @@
 use std::path::PathBuf;
 use std::process::Command;
 use std::sync::atomic::{AtomicU32, Ordering};
-use std::{env, fs, process};
+use std::{env, fs, io, process};
 
 use verity::{FileSettings, Settings};
 
@@ -75,7 +75,10 @@ pub fn hex(bytes: &[u8]) -> String {
 /// Runs one of Debian's programs, and answers what it prints.
 fn said(command: &mut Command) -> String {
     let path = format!("{}:/usr/sbin:/sbin", env::var("PATH").unwrap_or_default());
-    let out = command.env("PATH", path).output().unwrap_or_else(|fault| panic!("{command:?}: {fault}"));
+    let out = command.env("PATH", path).output().unwrap_or_else(|fault| match fault.kind() {
+        io::ErrorKind::NotFound => panic!("install cryptsetup-bin and fsverity: the tests compare with their programs"),
+        _ => panic!("{command:?}: {fault}"),
+    });
     assert!(out.status.success(), "{command:?}: {}", String::from_utf8_lossy(&out.stderr));
     String::from_utf8(out.stdout).unwrap()
 }
