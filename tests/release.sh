@@ -18,7 +18,8 @@ needs_root
 one=$scratch/one other=$scratch/other
 as_a_commit "$one"
 name=$(header_version <include/verity.h)
-if grep -qE "^## $name \([0-9-]+\)$" CHANGELOG.md; then name=verity-$name; else name=verity-$name~$(commit_in "$one"); fi
+if ! grep -qE "^## $name \([0-9-]+\)$" CHANGELOG.md; then name+=~$(commit_in "$one"); fi
+name=verity-$name
 archives=("$name"{,-x86_64,-aarch64}.tar.gz)
 
 : >"$one/crates/new"

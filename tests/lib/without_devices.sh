@@ -1,5 +1,5 @@
-# Where there are no device files, as in a container without any: in a name space of its own, in which an empty file system
-# stands over /dev. Sourced after tests/lib/checks.sh.
+# Where there are no device files, as in a container without any: in a name space of its own, in which an empty file
+# system stands over /dev. Sourced after tests/lib/checks.sh.
 
 # What begins a command there.
 without_devices=(unshare --mount)

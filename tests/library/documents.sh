@@ -62,7 +62,8 @@ fi
 awk '/^    #include "verity.h"|^    #include <stdio.h>/ { shown = 1 } shown && !/^(    .*)?$/ { exit } shown { print substr($0, 5) }' \
     "$root/docs/LIBRARY.md" >block.c
 same 'docs/LIBRARY.md: it is there' yes "$(grep -q verity_check_block block.c && echo yes)"
-runs 'docs/LIBRARY.md: it is built' 0 '' '' cc -Wall -Wextra -Wconversion -I"$root/include" block.c "$LIB/libverity.a" -o block
+runs 'docs/LIBRARY.md: it is built' 0 '' '' cc -Wall -Wextra -Wconversion -I"$root/include" block.c \
+    "$LIB/libverity.a" -o block
 # The path of data block 1: level 1 is block 1 of the hash device, and level 0 begins with block 2.
 {
     head -c 512 image.hash

@@ -85,11 +85,11 @@ cp "$data" "$stated" "$file" "$found"
 cp -r "$found" "$expected"
 sample 9000 >"$scratch/longer"
 
-# takes NAME TEXT SECOND GIVEN LEFT COMMAND..: a command takes the names of ten descriptors in the folder `at`, one after
-# another, in place of the word @. `within` has what begins it. An open stream's name leads to the stream's file, with the bytes of GIVEN before and of LEFT after, and
-# TEXT is printed. Any other can't be opened, since nothing was open there when the program began, and nothing is made
-# or changed. But once three files are held open DATA gets the next number, whose name is its second one: with that,
-# SECOND is the message, if there is one.
+# takes NAME TEXT SECOND GIVEN LEFT COMMAND..: a command takes the names of ten descriptors in the folder `at`, one
+# after another, in place of the word @; `within` has what begins it. An open stream's name leads to the stream's file,
+# with the bytes of GIVEN before and of LEFT after, and TEXT is printed. Any other can't be opened, since nothing was
+# open there when the program began, and nothing is made or changed. But once three files are held open DATA gets the
+# next number, whose name is its second one: with that, SECOND is the message, if there is one.
 takes() {
     local name=$1 text=$2 second=$3 given=$4 left=$5 number word status printed message ended
     local streams=${closed// /} fault=4 unopened='Cannot open' unwritten='Cannot write output.'
