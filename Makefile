@@ -189,7 +189,7 @@ help:
 	@echo 'make check           5 minutes +   all tests but the gate'
 	@echo 'make gate            60 minutes    every proof from nothing, tests of the crates, wrong bodies to be refused'
 	@echo 'make wrong-bodies    40 minutes +  sees each wrong body refused in its own function [CRATE, ANEW]'
-	@echo 'make check-programs  30 seconds +  runs the programs as a user would'
+	@echo 'make check-programs  a minute +    runs the programs as a user would'
 	@echo 'make check-library   5 minutes +   calls the library from C, and runs its examples'
 	@echo 'make out-of-memory   7 minutes +   refuses each request for memory in turn'
 	@echo 'make interop         10 minutes +  compares the programs with those of Debian, over all settings'

@@ -6,11 +6,11 @@
 # shared libraries are stripped. With TARGET=aarch64 it is the programs of bin/aarch64, and with STATIC=yes those of
 # bin/static or bin/aarch64/static. With CPU those that are built for another processor are refused. The pages and the
 # completion speak of the programs by these names. If the library for C is built for TARGET, that goes there too, by its
-# own names, with its header, its page and what pkg-config says of it. install.sh install-library|uninstall-library does
-# this with the library alone. Its page speaks of the programs by their plain names then. One target's library doesn't
-# take the place of another's, and isn't removed in place of it. install.sh install-python|uninstall-python does it with
-# the module of bindings/python, below DESTDIR in PYTHONDIR, or where the interpreter PYTHON looks for what is
-# installed. Nothing is built here, so that no proof runs as root.
+# own names, with its header, its page, also under the name of each function, and what pkg-config says of it. install.sh
+# install-library|uninstall-library does this with the library alone. Its page speaks of the programs by their plain
+# names then. One target's library doesn't take the place of another's, and isn't removed in place of it. install.sh
+# install-python|uninstall-python does it with the module of bindings/python, below DESTDIR in PYTHONDIR, or where the
+# interpreter PYTHON looks for what is installed. Nothing is built here, so that no proof runs as root.
 set -euo pipefail
 cd "$(dirname "$0")"
 . ./building.sh
@@ -163,6 +163,11 @@ takes_place() {
     fi
 }
 
+# page_links: prints the names under which the page stands, too: one for each function.
+page_links() {
+    awk '$1 == ".Fn" { print $2 ".3" }' man/verity.3 | sort -u
+}
+
 # put_library: puts the library there, and first what pkg-config says of it, by which it is known when it is removed.
 put_library() {
     local file
@@ -172,9 +177,12 @@ put_library() {
     ln -sfn libverity.so.2 "$libraries/libverity.so"
     put 644 "$headers/verity.h" <include/verity.h
     page man/verity.3 | put 644 "$pages/man3/verity.3"
+    for file in $(page_links); do ln -sfn verity.3 "$pages/man3/$file"; done
 }
 
 remove_library() {
+    local file
+    for file in $(page_links); do rm -f "$pages/man3/$file"; done
     rm -f "${archives[@]/#/$libraries/}" "${shared[@]/#/$libraries/}" "$libraries/libverity.so"
     rm -f "$headers/verity.h" "$pages/man3/verity.3" "$pkg_config"
 }

@@ -141,7 +141,8 @@ static() {
 shared() {
     if ! stays "$1" "$2"; then
         takes "$1" "$2" linking
-        echo 'VERITY_2.0 { global: verity_*; fsverity_*; local: *; };' >"$scratch/shown"
+        printf '%s\n' 'VERITY_2.0 { global: verity_*; fsverity_*; local: *; };' \
+            'VERITY_2.1 { global: verity_default_params; } VERITY_2.0;' >"$scratch/shown"
         "$compiler" -shared -nostartfiles -o "$scratch/shared" -Wl,--whole-archive "$scratch/$2.a" \
             -Wl,--no-whole-archive -Wl,-soname,libverity.so.2 -Wl,-z,noexecstack -Wl,-z,relro -Wl,-z,now \
             -Wl,--build-id=none "-Wl,--version-script,$scratch/shown" >"$scratch/said" 2>&1 ||

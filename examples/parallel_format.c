@@ -12,10 +12,10 @@
  *     ./parallel_format format THREADS DATA HASH SALT UUID
  *     ./parallel_format verify THREADS DATA HASH ROOT
  *
- * `format` makes a tree by SHA-256 over blocks of 4096 bytes, and prints its root hash. HASH is byte for byte what
- * `veritysetup format --salt=SALT --uuid=UUID DATA HASH` makes, and its superblock is written last: what was begun and
- * not ended is no image. `verify` takes the parameters from the superblock, which the root hash doesn't cover: compare
- * them with trusted ones, by verity_same_params, if somebody else could have written it.
+ * `format` makes a tree by SHA-256 over blocks of 4096 bytes, and prints its root hash. A new HASH is byte for byte
+ * what `veritysetup format --salt=SALT --uuid=UUID DATA HASH` of cryptsetup makes, and its superblock is written last:
+ * what was begun and not ended is no image. `verify` takes the parameters from the superblock, which the root hash
+ * doesn't cover: compare them with trusted ones, by verity_same_params, if somebody else could have written it.
  *
  * Status 0 if all is done, or all is right. Status 1 if a hash block or the root hash is another: a line on standard
  * error names the first difference, the one that `veritysetup verify` names. Status 2 if it can't be done: the line
@@ -283,13 +283,12 @@ static void print_hex(FILE *file, const uint8_t *bytes, size_t length) {
 }
 
 static int format(size_t threads, const char *name, const char *salt, const char *uuid) {
-    uint8_t root[VERITY_MAX_DIGEST_SIZE], superblock[512] = {0};
+    static const uint8_t zeros[4096];
+    uint8_t root[VERITY_MAX_DIGEST_SIZE], superblock[512];
     off_t length = lseek(data_file, 0, SEEK_END);
 
     if (length == -1)
         give_up("DATA", strerror(errno));
-    if (are_one_file())
-        give_up("HASH", "is the file DATA");
     params = (struct verity_params){.hash_algorithm = VERITY_SHA256,
                                     .hash_type = 1,
                                     .data_block_size = 4096,
@@ -299,11 +298,16 @@ static int format(size_t threads, const char *name, const char *salt, const char
         strcmp(salt, "-") == 0 ? 0 : (uint32_t)read_hex("SALT", salt, "", params.salt, sizeof params.salt);
     if (read_hex("UUID", uuid, "-", params.uuid, sizeof params.uuid) != sizeof params.uuid)
         give_up("UUID", "not 16 bytes");
-    write_hash(0, superblock, sizeof superblock); /* an older one would stand for a tree that is going */
+    check_status("verity_write_superblock", verity_write_superblock(&params, superblock, sizeof superblock));
+    hash_file = open_file(name, O_WRONLY | O_CREAT);
+    if (are_one_file())
+        give_up("HASH", "is the file DATA");
+    /* An older superblock would stand for a tree that is going; and Linux wants the whole block, even if no tree
+       follows. */
+    write_hash(0, zeros, sizeof zeros);
     sync_hash();
     sync_folder(name);
     build_tree(threads, root);
-    check_status("verity_write_superblock", verity_write_superblock(&params, superblock, sizeof superblock));
     sync_hash();
     write_hash(0, superblock, sizeof superblock);
     sync_hash();
@@ -322,11 +326,12 @@ static int is_before(const struct difference *one, const struct difference *othe
     return one->moment < other->moment || (one->moment == other->moment && one->level < other->level);
 }
 
-static int verify(size_t threads, const char *text) {
+static int verify(size_t threads, const char *name, const char *text) {
     uint8_t root[VERITY_MAX_DIGEST_SIZE], trusted[VERITY_MAX_DIGEST_SIZE], superblock[512];
     size_t length = read_hex("ROOT", text, "", trusted, sizeof trusted);
     struct difference first = {0};
 
+    hash_file = open_file(name, O_RDONLY);
     if (read_file(hash_file, "HASH", 0, superblock, sizeof superblock) < sizeof superblock)
         give_up("HASH", "too short for a superblock");
     check_status("verity_read_superblock", verity_read_superblock(superblock, sizeof superblock, 0, &params));
@@ -362,8 +367,7 @@ int main(int count, char **words) {
     if (threads < 1 || threads > MOST_THREADS)
         give_up("THREADS", "not 1 to 1024");
     data_file = open_file(words[3], O_RDONLY);
-    hash_file = open_file(words[4], count == 7 ? O_RDWR | O_CREAT : O_RDONLY);
-    end = count == 7 ? format(threads, words[4], words[5], words[6]) : verify(threads, words[5]);
+    end = count == 7 ? format(threads, words[4], words[5], words[6]) : verify(threads, words[4], words[5]);
     free(digests);
     free(firsts);
     if (close(data_file) == -1 || close(hash_file) == -1 || fflush(stdout) == EOF)

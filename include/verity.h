@@ -9,8 +9,9 @@
  * one tree, part or join. It calls memcpy, memmove and memset, and nothing else.
  *
  * What every caller owes, since it can't be checked here:
- *   - a pointer is not null, not even for a length of 0, and points to as many bytes as the length after it says, or to
- *     a whole struct or number; structs and numbers are aligned;
+ *   - a pointer points to as many bytes as the length after it says, or to a whole struct or number; structs and
+ *     numbers are aligned. A pointer may be null if its length is 0, as data() of an empty std::vector of C++ may be,
+ *     and never else;
  *   - what counts has been given a value. No value is needed by what a function only fills, by the padding of structs,
  *     by bytes of a salt after the first salt_size, by a size and a uuid that aren't looked at, and by the memory with
  *     which a tree, a part or a join is begun: nothing depends on what stands there, and it may be as malloc gave it;
@@ -55,15 +56,22 @@
  * stacks, so that no program is marked that it is linked into. On x86-64 it also jumps by tables, so that it can't run
  * where IBT is on.
  *
- * A call takes up to 12 KiB of stack on either target, and one that feeds or ends up to 16 KiB. Those that feed parts
- * take most: verity_part_feed 16312 bytes on x86-64. Measured are 14.4 KiB for feeding a tree, 12.1 for the end of a
- * file, 8.9 for a file digest, 8.3 for a block with its path, and up to 3.1 for those that hash nothing. With
- * libverity-strict-align.a a call that feeds takes up to 18 KiB.
+ * A call takes up to 12 KiB of stack on either target, and one that feeds or ends up to 16 KiB, with
+ * libverity-strict-align.a up to 18 KiB. These are the most bytes that a call can take by the library's code, whatever
+ * it is handed, but for what memcpy, memmove and memset take:
+ *
+ *                                                 x86-64   64-bit ARM   libverity-strict-align.a
+ *     a part that is fed or ended                  16264        14976                      18176
+ *     a tree that is fed or ended                  15560        14288                      17488
+ *     a join that is fed or ended, a file digest   10088         9312                      11392
+ *     a block that is checked                       8472         7632                       9776
+ *     any other call                                3112         3136                       3120
  *
  * Data that is written, copied or downloaded is fed to a tree as it comes, in pieces of any length, 0 too. The
- * functions whose names have _build_ in them do that, in memory of the caller's, as long as verity_build_memory or
- * fsverity_build_memory says: 65536 bytes for fs-verity with SHA-256 and blocks of 4096 bytes. A tree of dm-verity has
- * a stated number of data blocks, and each of its hash blocks is handed out once, as it closes:
+ * functions whose names have _build_ in them do that, in memory of the caller's, exactly as long as verity_build_memory
+ * or fsverity_build_memory says, 65536 bytes for fs-verity with SHA-256 and blocks of 4096 bytes: longer memory is
+ * refused, too (VERITY_BAD_LENGTH). A tree of dm-verity has a stated number of data blocks, and each of its hash blocks
+ * is handed out once, as it closes:
  *
  *     status = verity_build_begin(&params, &build, memory, memory_length);
  *     and for each piece:
@@ -118,7 +126,7 @@
  * of the levels below. It needs nothing of the other parts. Each part is built like a tree, by the functions whose
  * names have _part_ in them, and ends with a digest; the functions with _join_ take the digests of all parts in order,
  * hand out the hash blocks of the level and above, and end with the root hash. Which part is built when, and where,
- * doesn't matter: each hash block of the tree is handed out once, with its place. The memory is as long as
+ * doesn't matter: each hash block of the tree is handed out once, with its place. The memory is exactly as long as
  * verity_part_memory, or for the join verity_join_memory, says.
  *
  *     status = verity_part_count(&params, level, &parts, &blocks);
@@ -141,8 +149,12 @@
  * the beginning of the tree, and fsverity_join_end gives the file digest, too.
  *
  * Each part that is built at one time has a struct and a memory of its own. All parts and their join have the same
- * level and the same parameters, of a file also the same size. The library can't know whose digest it is handed: with
- * that of another part, another level or another tree the root hash is another, and there is no fault.
+ * level and the same parameters, of a file also the same size. The library can't know whose digest it is handed, and
+ * answers no fault: with another digest than the part's the root hash is another, unless two different blocks with one
+ * salted hash were found. Parts with the same data have one digest, so there it doesn't matter whose is handed in.
+ *
+ * That the first loop above ends with verity_build_feed is proved, whatever stands in struct and memory. That it ends
+ * with parts and joins, and that the loops for a file's tree end, is tested.
  *
  * An image is checked by parts like this: compare each hash block that is handed out with the one that stands at its
  * place, and of the first differences of each part and of the join take the earliest: the one that closes after the
@@ -232,7 +244,7 @@
 #include <stdint.h>
 
 #define VERITY_VERSION_MAJOR 2
-#define VERITY_VERSION_MINOR 0
+#define VERITY_VERSION_MINOR 1
 #define VERITY_VERSION_PATCH 0
 
 #ifdef __cplusplus
@@ -317,9 +329,10 @@ enum verity_hash_algorithm {
 #define VERITY_MAX_TEXT_SIZE 64
 
 /*
- * Parameters of a dm-verity tree. verity_read_superblock fills them; without a superblock the caller does. Each
- * function below checks them: VERITY_BAD_HASH_ALGORITHM, VERITY_BAD_HASH_TYPE, VERITY_BAD_DATA_BLOCK_SIZE,
- * VERITY_BAD_HASH_BLOCK_SIZE, VERITY_BAD_SALT_SIZE, VERITY_BAD_HASH_OFFSET, VERITY_NO_DATA, VERITY_TOO_LARGE.
+ * Parameters of a dm-verity tree. verity_read_superblock fills them; without a superblock the caller does, perhaps
+ * after verity_default_params. Each function below checks them: VERITY_BAD_HASH_ALGORITHM, VERITY_BAD_HASH_TYPE,
+ * VERITY_BAD_DATA_BLOCK_SIZE, VERITY_BAD_HASH_BLOCK_SIZE, VERITY_BAD_SALT_SIZE, VERITY_BAD_HASH_OFFSET, VERITY_NO_DATA,
+ * VERITY_TOO_LARGE.
  */
 struct verity_params {
     uint32_t hash_algorithm;  /* one of enum verity_hash_algorithm */
@@ -347,6 +360,15 @@ struct fsverity_params {
     uint32_t salt_size;      /* how many bytes of salt count, 0 to 32 */
     uint8_t salt[32];
 };
+
+/*
+ * The parameters that `veritysetup format` takes for so many data blocks where no option says otherwise: SHA-256, hash
+ * type 1, data and hash blocks of 4096 bytes, and a superblock at byte 0 of the hash device. They have no salt, and a
+ * uuid of zeros: `veritysetup format` draws 32 bytes of salt and a UUID, and so does the caller who wants them.
+ *
+ * VERITY_NO_DATA, VERITY_TOO_LARGE.
+ */
+VERITY_MUST_CHECK int verity_default_params(uint64_t data_blocks, struct verity_params *params);
 
 /*
  * Reads the superblock that the first 512 bytes say. hash_offset is where they stand on the hash device; it goes into
@@ -592,8 +614,8 @@ VERITY_MUST_CHECK int fsverity_build_end(const struct fsverity_params *params, u
 
 /*
  * Begins a file's tree whose blocks are handed out: build and memory are those of no bytes. What stood in them doesn't
- * count and needs no value. The memory is as long as fsverity_build_memory says. The size of the parameters isn't
- * looked at and needs no value, here and in the functions below: build->fed counts the bytes.
+ * count and needs no value. The memory is exactly as long as fsverity_build_memory says. The size of the parameters
+ * isn't looked at and needs no value, here and in the functions below: build->fed counts the bytes.
  *
  * VERITY_BAD_HASH_ALGORITHM, VERITY_BAD_DATA_BLOCK_SIZE, VERITY_BAD_SALT_SIZE, VERITY_BAD_LENGTH.
  */
@@ -757,7 +779,7 @@ VERITY_MUST_CHECK int fsverity_join_memory(const struct fsverity_params *params,
 
 /*
  * Begins to join the parts of a level: no digest was taken. What stood in struct and memory doesn't count and needs no
- * value. The memory is as long as the function above says, here and in those below.
+ * value. The memory is exactly as long as the function above says, here and in those below.
  *
  * A fault of the parameters, VERITY_NO_SUCH_LEVEL, VERITY_BAD_LENGTH.
  */

@@ -107,6 +107,39 @@ closed_streams() {
     done
 }
 
+# A root folder that its user can't read. What is held open in place of the streams is /proc then, or else what stands
+# at the name of the null device, and without both the programs stop.
+in_closed_root() {
+    local held
+    chmod 711 "$root_folder"
+    runs 'neither /, /proc nor /dev: dump' 4 '' 'Cannot open /dev/null.' in_root veritysetup dump /stated
+    runs 'neither /, /proc nor /dev: digest' 1 '' 'fsverity: cannot open /dev/null.' in_root fsverity digest /one
+    for held in proc dev; do
+        mkdir "$root_folder/$held"
+        if [ $held = dev ]; then : >"$root_folder/dev/null"; fi
+        : >"$hash"
+        chmod 666 "$hash"
+        runs "/$held without /: format" 4 '' '' \
+            with_closed '0 1 2' in_root veritysetup format "${image_17_options[@]}" /data /hash
+        same_bytes "/$held without /: format: the hash file" "$stated" "$hash"
+        runs "/$held without /: verify" 0 '' '' in_root veritysetup verify /data /hash "$root"
+        runs "/$held without /: digest" 0 "$one /one" '' in_root fsverity digest /one
+        rm -r "${root_folder:?}/$held" "$hash"
+    done
+    mkdir "$root_folder/proc"
+    if unshare --mount true 2>/dev/null; then
+        # Where /proc is more than a folder, descriptors have names.
+        # shellcheck disable=SC2016
+        runs '/proc without /: descriptor 3 as FILE' 1 '' 'fsverity: cannot open /proc/self/fd/3.' \
+            unshare --mount sh -c 'mount --bind /proc "$0/proc" && exec chroot --userspec=65534:65534 "$0" "$@"' \
+            "$root_folder" "${qemu[@]}" /fsverity digest /proc/self/fd/3 3<&-
+    else
+        echo 'left out: descriptors where / is closed and /proc is not: nothing can be mounted here'
+    fi
+    rmdir "$root_folder/proc"
+    chmod 777 "$root_folder"
+}
+
 with_little_stack() {
     sample 1200000 >"$root_folder/long"
     for block in 512 4096 16384 262144; do
@@ -127,6 +160,7 @@ for user in root nobody; do
     # As a user who isn't root it is that user alone.
     if [ "$(id -u)" -ne 0 ]; then break; fi
 done
+if [ $user = nobody ]; then in_closed_root; fi
 (cd "$root_folder" && find . | sort) >"$scratch/after"
 same_bytes 'nothing else is left there' "$scratch/before" "$scratch/after"
 finish

@@ -1,7 +1,7 @@
 #!/usr/bin/env bash
-# Checks the manual pages: mandoc has nothing to say of them, they have the release's date, their examples run, their
-# lists of messages are those of the programs' sources, each under the status that the soak expects with it, and their
-# options are those of the programs' usages.
+# Checks the manual pages: mandoc has nothing to say of them, they have the date of the version's release, their
+# examples run, their lists of messages are those of the programs' sources, each under the status that the soak expects
+# with it, and their options are those of the programs' usages.
 set -u
 cd "$(dirname "$0")/.."
 . tests/lib/checks.sh

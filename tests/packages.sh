@@ -1,8 +1,8 @@
 #!/usr/bin/env bash
 # `make deb` makes the same packages of a commit in two folders, whatever the user has set. Their files, what they
-# depend on and their version are those of docs/PACKAGING.md, and lintian has no error and no warning, of a release's
-# either. For each architecture dpkg installs them into a root that has a C library alone; there the programs run, and
-# debian/tests with what stands there, for arm64 by qemu; and once they are purged the root is what it was.
+# depend on and their version are those of docs/PACKAGING.md, and lintian has no error and no warning, of those of a
+# release either. For each architecture dpkg installs them into a root that has a C library alone; there the programs
+# run, and debian/tests with what stands there, for arm64 by qemu; and once they are purged the root is what it was.
 set -u
 cd "$(dirname "$0")/.."
 . tests/lib/checks.sh
@@ -129,6 +129,7 @@ files() {
             printf -- '-rw-r--r-- %s\n' usr/include/verity.h "$libraries/libverity.a" "$libraries/pkgconfig/verity.pc" \
                 usr/share/man/man3/verity.3.gz
             echo "lrwxrwxrwx $libraries/libverity.so libverity.so.2"
+            header_functions | sed 's|.*|lrwxrwxrwx usr/share/man/man3/&.3.gz verity.3.gz|'
             if [ $architecture = arm64 ]; then echo "-rw-r--r-- $libraries/libverity-strict-align.a"; fi
             ;;
         esac

@@ -112,5 +112,10 @@ cp $'files/caf\xe9' plain
     printf '%s files/noise\0' "$(fsverity digest --compact files/noise)"
 } >"$scratch/lines"
 same_bytes 'digests of names of all kinds' "$scratch/lines" digests
+recipe 'The digests of a whole folder' | sed -n '/^\$ echo /,$p' >"$scratch/again"
+locale=C
+run_examples 'docs/RECIPES.md, in the C locale' "$scratch/again"
+same 'in the C locale: commands' 2 "$examples"
+same_bytes 'digests of names of all kinds, in the C locale' "$scratch/lines" digests
 cd "$top" || exit 1
 finish

@@ -18,7 +18,7 @@ needs_root
 one=$scratch/one other=$scratch/other
 as_a_commit "$one"
 name=$(header_version <include/verity.h)
-if ! grep -qE "^## $name \([0-9-]+\)$" CHANGELOG.md; then name+='~'$(commit_in "$one"); fi
+if ! grep -qE "^## $name \([0-9-]+\)$" CHANGELOG.md; then name+=~$(commit_in "$one"); fi
 name=verity-$name
 archives=("$name"{,-x86_64,-aarch64}.tar.gz)
 
@@ -65,6 +65,7 @@ files() {
         "-rw-r--r-- share/doc/verity/"{README,CHANGELOG}.md \
         "-rw-r--r-- share/man/"{man1/fsverity-proved.1,man3/verity.3,man8/veritysetup-proved.8} \
         'lrwxrwxrwx lib/libverity.so libverity.so.2'
+    header_functions | sed 's|.*|lrwxrwxrwx share/man/man3/&.3 verity.3|'
     case $1 in
     x86_64) echo '-rwxr-xr-x lib/glibc-hwcaps/x86-64-v3/libverity.so.2' ;;
     aarch64) echo '-rw-r--r-- lib/libverity-strict-align.a' ;;

@@ -12,17 +12,18 @@
  *
  * `plan` makes the folder, with a superblock of SHA-256 and blocks of 4096 bytes, makes HASH, where an older superblock
  * is cleared, and prints how many parts there are: `build_part` builds each. `join` takes their digests from the
- * folder, writes what stands above the parts to HASH, and last the superblock, and prints the root hash. HASH is then
- * byte for byte what `veritysetup format --salt=SALT --uuid=UUID DATA HASH` makes. Status 0 if it is done, 1 if not: a
- * line on standard error says why, and which part has no digest.
+ * folder, writes what stands above the parts to HASH, and last the superblock, and prints the root hash. A new HASH is
+ * then byte for byte what `veritysetup format --salt=SALT --uuid=UUID DATA HASH` of cryptsetup makes. Status 0 if it is
+ * done, 1 if not: a line on standard error says why, and which part has no digest.
  */
 #include "parts.h"
 
 #include "../read_hex.h"
 
-/* Makes HASH, or clears an older superblock, which would stand for a tree that is going. */
+/* Makes HASH, or clears an older superblock, which would stand for a tree that is going; with the rest of its block,
+   which Linux wants even if no tree follows. */
 static void begin_hash(int data, const char *name) {
-    static const uint8_t zeros[512];
+    static const uint8_t zeros[4096];
     struct stat about, other;
     int hash = open_file(name, O_WRONLY | O_CREAT);
 

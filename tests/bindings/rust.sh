@@ -84,7 +84,8 @@ same 'unsafe without its reason' '' "$(awk '/unsafe \{/ && !has_reason { print F
 RUSTC_BOOTSTRAP=1 tests 'all, shared, with std' 37
 tests 'all, shared, without std' 30 --no-default-features
 CASES=8 in_static tests 'static' 3 --test debian
-PATH=$(path_without fsverity) cargo test "${manifest[@]}" --locked --test debian files >"$scratch/.tests" 2>&1 </dev/null
+PATH=$(path_without fsverity) cargo test "${manifest[@]}" --locked --test debian files \
+    >"$scratch/.tests" 2>&1 </dev/null
 same "without Debian's programs: status" 101 $?
 same "without Debian's programs" 1 \
     "$(grep -c 'install cryptsetup-bin and fsverity: the tests compare with their programs' "$scratch/.tests")"

@@ -10,6 +10,7 @@ cd "$(dirname "$0")/../.."
 . tests/lib/debian.sh
 has_program fsverity
 has_program veritysetup
+needs python3 python3
 needs_other veritysetup cryptsetup-bin
 needs_other fsverity fsverity
 

@@ -42,6 +42,22 @@ has_no_marks() {
     esac
 }
 
+# takes_null LIBRARY INSTRUCTION [PREFIX]: each function puts another address in the place of null for each pointer with
+# a length, so that nothing compiled takes such a pointer for one that isn't null. INSTRUCTION chooses the address.
+takes_null() {
+    sed 's|/\*.*\*/||; /\/\*/,/\*\//d' include/verity.h | tr -s ' \n' ' ' | grep -oE '\b(fs)?verity_[a-z_]+\([^)]*\)' |
+        awk -F'(' '{ count = gsub(/(uint8_t|char) \*[a-z_]+, size_t/, "&"); if (count) print $1, count }' |
+        sort >"$scratch/pointers"
+    same 'functions with a pointer and its length' 36 "$(wc -l <"$scratch/pointers")"
+    "${3:-}objdump" -d --no-show-raw-insn "$1" | awk -v instruction="$2" '
+        NR == FNR { wanted[$1] = $2; next }
+        />:$/ { name = substr($2, 2, length($2) - 3) }
+        $0 ~ instruction { found[name]++ }
+        END { for (name in wanted) print name, found[name] < wanted[name] ? found[name] + 0 : wanted[name] }
+    ' "$scratch/pointers" - | sort >"$scratch/chosen"
+    same_bytes "where null is another address in ${1#"$LIB/"}" "$scratch/pointers" "$scratch/chosen"
+}
+
 # keeps_registers OUT COMPILER WORD..: builds tests/library/abi.c, which uses none of the registers that a call leaves,
 # so that it can keep something there.
 keeps_registers() {

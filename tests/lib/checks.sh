@@ -66,6 +66,11 @@ same_bytes() {
     if found=$(cmp "$2" "$3" 2>&1); then pass; else fail "$1" "expected the bytes of $2" "found: $found"; fi
 }
 
+# header_functions: prints the functions that the header of the library declares, in order.
+header_functions() {
+    sed -nE 's/^(VERITY_MUST_CHECK int|uint32_t) ([a-z_]+)\(.*/\2/p' include/verity.h | sort
+}
+
 # absent NAME FILE: a file was not made.
 absent() {
     if [ -e "$2" ]; then fail "$1" "expected: $2 is not there" "found:    it was made"; else pass; fi

@@ -23,6 +23,12 @@ lacking() {
     done
 }
 
+# The locale of the examples: one for UTF-8, as most users have, if there is one. bash reads names by it.
+locale=$(locale -a 2>/dev/null | grep -ixm 1 'c\.utf-\?8') || {
+    locale=C
+    echo 'left out: examples in a locale for UTF-8: there is none'
+}
+
 # run_example COMMAND EXPECTED: runs a command in this shell, so that its variables and its status stay for the next, and
 # compares what it prints on both streams, and its status. If a program is missing, the rest of the group is left out
 # with it.
@@ -33,9 +39,10 @@ run_example() {
         echo "left out: $document, from '${1%%$'\n'*}' on: $missing is not installed"
         return
     fi
+    LC_ALL=$locale
     (exit "$status")
     eval "$1" >"$scratch/.shown" 2>&1 </dev/null
-    status=$?
+    status=$? LC_ALL=C
     is_text "$document: $1" "$2" "$scratch/.shown"
     same "$document: $1: status" "$(stated_status "$2")" "$status"
 }

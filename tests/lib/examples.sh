@@ -23,7 +23,7 @@ build() {
         fail "$file: build" "its comment has no command that begins with $compiler"
         return 1
     fi
-    if eval "$command -Wall -Wextra -Wpedantic -Werror $*" >"$scratch/built" 2>&1; then
+    if eval "$command -Wall -Wextra -Wpedantic -Wconversion -Werror $*" >"$scratch/built" 2>&1; then
         pass
     else
         fail "$file: build" "$(cat "$scratch/built")"

@@ -61,7 +61,7 @@ uninstalls() {
     make -s "${goal:-uninstall}" DESTDIR="$folder" "$@" >"$scratch/.made" 2>&1 </dev/null
     is_text "$folder: what make ${goal:-uninstall} says" '' "$scratch/.made"
     same "$folder: what ${goal:-uninstall} leaves" "$beside" "$(listed "$folder")"
-    same "$folder: libverity.so after ${goal:-uninstall}" '' "$(find "$folder" -name libverity.so)"
+    same "$folder: links after ${goal:-uninstall}" '' "$(find "$folder" -type l)"
 }
 
 # refuses NAME MESSAGE WORD..: make with these words ends with an error that install.sh names, and nothing is installed.

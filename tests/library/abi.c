@@ -142,6 +142,9 @@ static void try_device(void)
     start = unset(sizeof *start);
     SHOW(verity_hash_area_end(params, start), start, sizeof *start);
     SHOW(verity_same_params(params, device_params()), "", 0);
+    read = unset(sizeof *read);
+    SHOW(verity_default_params(DATA_BLOCKS, read), read, sizeof *read);
+    read = unset(sizeof *read);
     memset(params->uuid, 3, sizeof params->uuid);
     SHOW(verity_write_superblock(params, superblock, 512), superblock, 512);
     SHOW(verity_read_superblock(superblock, 512, 4096, read), read, sizeof *read);

@@ -52,6 +52,12 @@ for library in libverity.a libverity.so.2; do
     fi
 done
 
+states 'A pointer may be null if its length is 0'
+takes_null "$LIB/libverity.a" 'shl +[$]0xc,'
+if [ -e "$LIB/glibc-hwcaps/x86-64-v3/libverity.a" ]; then
+    takes_null "$LIB/glibc-hwcaps/x86-64-v3/libverity.a" 'shl +[$]0xc,'
+fi
+
 # A program that is marked for IBT and shadow stacks is so no longer with the library.
 marked=(gcc -shared -nostartfiles -fcf-protection -x c - -x none)
 "${marked[@]}" -o "$scratch/marked" <<<'int marked(void) { return 1; }' 2>/dev/null

@@ -81,6 +81,7 @@ for library in libverity.a libverity-strict-align.a libverity.so.2; do
     has_no_marks "$ARM_LIB/$library" aarch64-linux-gnu-
 done
 for library in libverity.a libverity-strict-align.a; do
+    takes_null "$ARM_LIB/$library" 'csel.*, eq' aarch64-linux-gnu-
     if keeps_registers "$scratch/abi" aarch64-linux-gnu-gcc -static "$ARM_LIB/$library"; then
         adds "registers that a call of $library keeps" qemu-aarch64 "$scratch/abi" 90
     fi

@@ -80,7 +80,9 @@ bool begins_round(struct call *call)
     size_t i;
 
     for (i = 0; call->round < 2 && call->operands[i].what != NULL; i++)
-        call->at[i] = place(call->operands[i].buffer, start_of(call, i), call->operands[i].length);
+        call->at[i] = call->round == 1 && call->operands[i].length == 0
+                          ? NULL
+                          : place(call->operands[i].buffer, start_of(call, i), call->operands[i].length);
     return call->round < 2;
 }
 
@@ -136,6 +138,15 @@ struct operand params_of(const struct tree *tree)
 {
     return tree->is_file ? READS(PARAMS, "the parameters", &tree->file, sizeof tree->file)
                          : READS(PARAMS, "the parameters", &tree->device, sizeof tree->device);
+}
+
+int call_default_params(uint64_t data_blocks, struct verity_params *params)
+{
+    struct call call = {.name = "verity_default_params",
+                        .operands = {FILLS(FIRST_FILLED, "the parameters", params, sizeof *params)}};
+
+    MAKES(call, verity_default_params(data_blocks, call.at[0]));
+    return call.status;
 }
 
 int call_read_superblock(struct bytes bytes, uint64_t hash_offset, struct verity_params *params)

@@ -12,10 +12,11 @@
 
 /*
  * A call of the library. Each buffer has just the length that is said: it stands right before or right behind memory
- * that can't be read, or comes from malloc. Each call is made twice. Checked each time: the status is one of the
- * header's, the second answer is the first, what is handed in stays as it is, and so does what is filled if the status
- * doesn't let it change.
+ * that can't be read, or comes from malloc. Each call is made twice, the second time with null for a length of 0.
+ * Checked each time: the status is one of the header's, the second answer is the first, what is handed in stays as it
+ * is, and so does what is filled if the status doesn't let it change.
  */
+int call_default_params(uint64_t data_blocks, struct verity_params *params);
 int call_read_superblock(struct bytes bytes, uint64_t hash_offset, struct verity_params *params);
 int call_level_count(const struct tree *tree, size_t *levels);
 int call_level_start(const struct tree *tree, size_t level, uint64_t *start, uint64_t *blocks);

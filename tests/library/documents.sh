@@ -62,7 +62,8 @@ fi
 awk '/^    #include "verity.h"|^    #include <stdio.h>/ { shown = 1 } shown && !/^(    .*)?$/ { exit } shown { print substr($0, 5) }' \
     "$root/docs/LIBRARY.md" >block.c
 same 'docs/LIBRARY.md: it is there' yes "$(grep -q verity_check_block block.c && echo yes)"
-runs 'docs/LIBRARY.md: it is built' 0 '' '' cc -Wall -I"$root/include" block.c "$LIB/libverity.a" -o block
+runs 'docs/LIBRARY.md: it is built' 0 '' '' cc -Wall -Wextra -Wconversion -I"$root/include" block.c \
+    "$LIB/libverity.a" -o block
 # The path of data block 1: level 1 is block 1 of the hash device, and level 0 begins with block 2.
 {
     head -c 512 image.hash
@@ -233,8 +234,8 @@ int main(int count, char **words)
 }
 EOC
 } >file.c
-runs 'docs/LIBRARY.md: the function for a file is built' 0 '' '' cc -Wall -Wextra -I"$root/include" file.c \
-    "$LIB/libverity.a" -o file
+runs 'docs/LIBRARY.md: the function for a file is built' 0 '' '' cc -Wall -Wextra -Wconversion -I"$root/include" \
+    file.c "$LIB/libverity.a" -o file
 if command -v fsverity >/dev/null; then
     same 'docs/LIBRARY.md: the digest of a file' \
         "$(fsverity digest --compact image.ext4)$(little_endian 8 $((300 * 4096)) | od -An -v -tx1 | tr -d ' \n')" \
@@ -278,7 +279,7 @@ int main(int count, char **words)
         return 2;
     do {
         if (verity_join_feed(&params, &join, joining, length, digests + at, sizeof digests - at, &fed) != 0 ||
-            pwrite(hash, joining + fed.block_at, fed.block_length, fed.block_start) != (ssize_t)fed.block_length)
+            pwrite(hash, joining + fed.block_at, fed.block_length, (off_t)fed.block_start) != (ssize_t)fed.block_length)
             return 3;
         at += fed.taken;
     } while (fed.block_length > 0);
@@ -289,8 +290,8 @@ int main(int count, char **words)
 }
 EOC
 } >part.c
-runs 'docs/LIBRARY.md: the function for a part is built' 0 '' '' cc -Wall -Wextra -I"$root/include" part.c \
-    "$LIB/libverity.a" -o part
+runs 'docs/LIBRARY.md: the function for a part is built' 0 '' '' cc -Wall -Wextra -Wconversion -I"$root/include" \
+    part.c "$LIB/libverity.a" -o part
 rm fed.hash
 ./part image.ext4 fed.hash >root
 same 'docs/LIBRARY.md: the parts of an image: status' 0 "$?"

@@ -1,8 +1,8 @@
 #!/usr/bin/env bash
 # Builds the examples of the library for C by the commands in their comments, and runs them over images and files of
-# Debian's veritysetup and fsverity: right blocks are handed out, changed ones are refused. Then measures how much stack
-# each function of the library takes, which include/verity.h states. LIB is the folder with the library. Where the
-# tools for 64-bit ARM are there, boot_check and the stack are tried by them too.
+# Debian's veritysetup and fsverity: right blocks are handed out, changed ones are refused. Then looks how much stack
+# each function of the library takes by its code, and some by calls, which header and page state. LIB is the folder with
+# the library. Where the tools for 64-bit ARM are there, boot_check and the stack are tried by them too.
 set -u
 cd "$(dirname "$0")/../.."
 . tests/lib/checks.sh
@@ -315,104 +315,86 @@ copy_checks() {
 
 # --------------------------------------------------- Stack ---------------------------------------------------
 
-# deep_paths: writes files for tests/library/stack.c: blocks of the deepest trees there are, and of usual ones.
-deep_paths() {
-    PYTHONPATH=tests/lib PYTHONDONTWRITEBYTECODE=1 python3 - "$scratch" <<'END'
-import hashlib, itertools, random, struct, sys
-from layouts import SUPERBLOCK_SIZE, descriptor, superblock
-from trees import FS_VERITY, MOST_BYTES, Settings, Shape, chain
-source = random.Random(1)
+# Rows of the table in header and page: the calls, and the bytes on x86-64, on 64-bit ARM and with strict alignment.
+rows=$(sed -nE 's/^ \*     ([a-z ,]*[a-z])  +([0-9]+) +([0-9]+) +([0-9]+)$/\1:\2:\3:\4/p' include/verity.h)
 
-def write(name, start, settings):
-    index = settings.count - 2
-    blocks, root = chain(Shape(settings, 0), index, source)
-    with open(f'{sys.argv[1]}/{name}.path', 'wb') as file:
-        file.write(struct.pack('<Q', index) + start.ljust(SUPERBLOCK_SIZE, b'\0') + b''.join(blocks) + root)
-
-for name, kind, salt_size, size in itertools.product(
-        ['sha256', 'sha512', 'sha1', 'sha224', 'sha384'], [0, 1], [0, 1, 32, 256], [512, 4096]):
-    count = MOST_BYTES // size if size == 512 else 100000
-    settings = Settings(name, size, size, source.randbytes(salt_size), count, kind)
-    write(f'image-{name}-{kind}-{salt_size}-{size}', superblock(settings, source.randbytes(16)), settings)
-
-for name, salt_size, size in itertools.product(['sha256', 'sha512'], [0, 1, 32], [0, 1024, 4096]):
-    block, salt = size or 2 * hashlib.new(name).digest_size, source.randbytes(salt_size)
-    file_size = 2**60 + 77
-    settings = Settings(name, block, block, salt, -(-file_size // block), FS_VERITY)
-    write(f'file-{name}-{salt_size}-{size}', descriptor(settings, file_size, b''), settings)
-END
+# row_of FUNCTION: the calls among which the table has it.
+row_of() {
+    case $1 in
+    *_part_feed | *_part_end) echo 'a part that is fed or ended' ;;
+    *_build_feed | *_build_end | *_build_end_block) echo 'a tree that is fed or ended' ;;
+    *_join_feed | *_join_end | fsverity_file_digest) echo 'a join that is fed or ended, a file digest' ;;
+    *_check_*) echo 'a block that is checked' ;;
+    *) echo 'any other call' ;;
+    esac
 }
 
-# stack_of NAME LIBRARY FEEDING RUNNER COMPILER..: measures the stack and compares it with what the header states:
-# FEEDING bytes for a call that feeds.
+# stack_of LIBRARY COLUMN MOST PREFIX RUNNER..: by its code no call of a library takes more stack than that column of
+# the table says, and one that feeds or ends no more than MOST KiB. Of the calls that stack.c measures none takes more
+# than its code says, and the one that takes most takes just that. PREFIX stands before the names of tools.
 stack_of() {
-    local name=$1 library=$2 feeding=$3 runner=$4 functions function taken most
+    local name=${1#"$LIB/"} library=$1 column=$2 most=$3 prefix=$4 function taken stated limit measured least
     shift 4
-    if ! "$@" -std=c11 -O2 -static -Wall -Wextra -Wpedantic -Werror -Iinclude -o "$scratch/stack" \
-        tests/library/stack.c "$library" >"$scratch/built" 2>&1; then
-        fail "stack.c for $name" "$(cat "$scratch/built")"
-        return
-    fi
-    # The runner is one word or none.
-    # shellcheck disable=SC2086
-    if timeout "$LONGEST" $runner "$scratch/stack" "$scratch"/*.path >"$scratch/taken" 2>"$scratch/.err"; then
-        pass
-    else
-        fail "stack for $name" "tests/library/stack.c ends with $?: $(cat "$scratch/.err")"
-        return
-    fi
-    functions=$(sed -nE 's/^(VERITY_MUST_CHECK int|uint32_t) ([a-z_]+)\(.*/\2/p' include/verity.h | sort)
-    same "stack for $name: the functions" "$functions" "$(cut -d' ' -f1 "$scratch/taken" | sort)"
-    echo "bytes of stack for $name:"
+    "${prefix}objdump" -dr --no-show-raw-insn "$library" | tests/library/stack.py >"$scratch/taken" 2>"$scratch/.err"
+    same "stack of $name: the functions" "$(header_functions)" "$(cut -d' ' -f1 "$scratch/taken")"
+    is_text "stack of $name: what isn't known" '' "$scratch/.err"
+    echo "bytes of stack, $name:"
     while read -r function taken; do
-        printf '    %-24s %5d\n' "$function" "$taken"
-        case $function in
-        *_build_feed | *_part_feed | *_join_feed) most=$feeding ;;
-        *_build_end | *_build_end_block | *_part_end | *_join_end) most=$stated_of_building ;;
-        *) most=$stated ;;
-        esac
-        if [ "$taken" -gt 0 ] && [ "$taken" -le "$most" ]; then
+        printf '    %-29s %5d\n' "$function" "$taken"
+        stated=$(awk -F: -v row="$(row_of "$function")" -v column="$column" '$1 == row { print $column }' <<<"$rows")
+        limit=$stated_in_all
+        case $function in *_feed | *_end | *_end_block) limit=$most ;; esac
+        if [ "$taken" -le "${stated:-0}" ] && [ "$taken" -le $((limit * 1024)) ]; then
             pass
         else
-            fail "stack of $function for $name" "stated: up to $most bytes" "found:  $taken"
+            fail "stack of $function, $name" "stated: up to $stated bytes, and $limit KiB" "found:  $taken"
         fi
     done <"$scratch/taken"
+    compiles "$scratch/stack" "${prefix}gcc" -O2 -static tests/library/stack.c "$library" || return
+    "$@" "$scratch/stack" >"$scratch/measured" 2>"$scratch/.err"
+    same "stack of $name, measured: functions" 5 "$(wc -l <"$scratch/measured")"
+    # Arguments may stand on the stack, too, and not every byte of it is written.
+    while read -r function measured; do
+        taken=$(awk -v name="$function" '$1 == name { print $2 }' "$scratch/taken") least=0
+        if [ "$function" = verity_part_feed ]; then least=$((taken - 64)); fi
+        if [ "$measured" -ge $least ] && [ "$measured" -le $((taken + 64)) ]; then
+            pass
+        else
+            fail "stack of $function, $name" "by the code: $taken" "measured:    $measured"
+        fi
+    done <"$scratch/measured"
 }
 
 stack_checks() {
-    local words strict for_v3=$LIB/glibc-hwcaps/x86-64-v3/libverity.a
-    local arm=(qemu-aarch64 aarch64-linux-gnu-gcc)
-    has python3 python3 'the stack' || return
+    local words strict building for_v3=$LIB/glibc-hwcaps/x86-64-v3/libverity.a arm=aarch64-linux-gnu- sentence
+    has python3 python3 'the stack' && has objdump binutils 'the stack' || return
+    same "the table of man/verity.3" "$rows" \
+        "$(sed -nE 's/^\.It ([a-z ,]*[a-z]) Ta ([0-9]+) Ta ([0-9]+) Ta ([0-9]+)$/\1:\2:\3:\4/p' man/verity.3)"
     # A sentence of the header goes on in the next line.
     words=$(sed 's/^ \*//' include/verity.h | tr -s ' \n' ' ')
-    stated=$(sed -n 's/.* takes up to \([0-9]*\) KiB of stack .*/\1/p' <<<"$words")
-    stated_of_building=$(sed -n 's/.* feeds or ends up to \([0-9]*\) KiB.*/\1/p' <<<"$words")
-    strict=$(sed -n 's/.* With libverity-strict-align\.a a call that feeds takes up to \([0-9]*\) KiB.*/\1/p' \
-        <<<"$words")
-    if [ -z "$stated" ] || [ -z "$stated_of_building" ] || [ -z "$strict" ]; then
-        fail 'the stack' 'include/verity.h states no bytes' "in all: $stated KiB" \
-            "what feeds or ends: $stated_of_building KiB" "what feeds with libverity-strict-align.a: $strict KiB"
+    sentence='.* A call takes up to ([0-9]+) KiB of stack on either target, and one that feeds or ends up to ([0-9]+)'
+    sentence+=' KiB, with libverity-strict-align\.a up to ([0-9]+) KiB.*'
+    read -r stated_in_all building strict < <(sed -nE "s/$sentence/\1 \2 \3/p" <<<"$words")
+    if [ -z "$strict" ]; then
+        fail 'the stack' 'include/verity.h states no KiB'
         return
     fi
-    stated=$((stated * 1024)) stated_of_building=$((stated_of_building * 1024))
-    deep_paths
     if [ "$(uname -m)" = x86_64 ]; then
-        stack_of x86-64 "$LIB/libverity.a" $stated_of_building '' gcc
+        stack_of "$LIB/libverity.a" 2 "$building" ''
         if [ ! -e "$for_v3" ]; then
             echo "left out: the stack for x86-64-v3: $for_v3 is not there"
         elif [ "$(./processor.sh)" != x86-64-v3 ]; then
             echo "left out: the stack for x86-64-v3: this processor doesn't have all of it"
         else
-            stack_of x86-64-v3 "$for_v3" $stated_of_building '' gcc
+            stack_of "$for_v3" 2 "$building" ''
         fi
     fi
     if [ ! -e "$LIB/aarch64/libverity.a" ]; then
         echo "left out: the stack for 64-bit ARM: $LIB/aarch64/libverity.a is not there"
-    elif has aarch64-linux-gnu-gcc gcc-aarch64-linux-gnu 'the stack for 64-bit ARM' &&
+    elif has ${arm}gcc gcc-aarch64-linux-gnu 'the stack for 64-bit ARM' &&
         has qemu-aarch64 qemu-user 'the stack for 64-bit ARM'; then
-        stack_of '64-bit ARM' "$LIB/aarch64/libverity.a" $stated_of_building "${arm[@]}"
-        stack_of '64-bit ARM, libverity-strict-align.a' "$LIB/aarch64/libverity-strict-align.a" $((strict * 1024)) \
-            "${arm[@]}"
+        stack_of "$LIB/aarch64/libverity.a" 3 "$building" $arm qemu-aarch64
+        stack_of "$LIB/aarch64/libverity-strict-align.a" 4 "$strict" $arm qemu-aarch64
     fi
 }
 

@@ -105,11 +105,12 @@ beside $paint
 digest $(sha512 "$scratch/descriptor")" "$(cat "$scratch/structs.txt")"
 fi
 
-same 'functions of the header' 60 "$(wc -l <<<"$functions")"
+same 'functions of the header' 61 "$(wc -l <<<"$functions")"
 same 'functions that refused.c calls' "$with_status" \
     "$(sed -nE 's/^    \{"((fs)?verity_[a-z_]+)", .*/\1/p' tests/library/refused.c | sort)"
-same 'functions that the shared library shows' "$(sed 's/$/@@VERITY_2.0/' <<<"$functions" | sort)" \
-    "$(nm -D --defined-only "$LIB/libverity.so.2" | awk '$3 != "VERITY_2.0" { print $3 }' | sort)"
+same 'functions that the shared library shows' \
+    "$(sed 's/$/@@VERITY_2.0/; /^verity_default_params@/s/2\.0$/2.1/' <<<"$functions" | sort)" \
+    "$(nm -D --defined-only "$LIB/libverity.so.2" | awk '$3 !~ /^VERITY_2/ { print $3 }' | sort)"
 same 'functions that the static library shows' "$functions" \
     "$(nm -g --defined-only "$LIB/libverity.a" | awk 'NF == 3 { print $3 }' | sort)"
 same 'the soname' libverity.so.2 "$(readelf -d "$LIB/libverity.so.2" | sed -n 's/.*soname: \[\(.*\)\]/\1/p')"

@@ -47,6 +47,8 @@ installs_library() {
         make -s -C "$scratch/alone" --no-print-directory install-library DESTDIR="$folder" TARGET="$target" "$@"
     same "$folder: files" "$(library_files "$target" "$prefix" | sort -k 2)" "$(listed "$folder")"
     same_bytes "$folder: the page" man/verity.3 "$folder/${manuals:-$prefix/share/man}/man3/verity.3"
+    same "$folder: links to the page" "$(header_functions | sed 's/$/.3 verity.3/')" \
+        "$(find "$folder/${manuals:-$prefix/share/man}" -type l -printf '%P %l\n' | sed 's|^man3/||' | sort)"
     while read -r _ file; do
         # What is stripped is compared apart.
         if [[ " $* " = *' STRIP=yes '* && $file != *.a ]]; then continue; fi

@@ -1,5 +1,5 @@
 /*
- * Where the fields of a superblock of dm-verity begin, pads among them, and those of a descriptor of fs-verity, as
+ * Where the fields of a superblock of dm-verity begin, pads among them, and how long a descriptor of fs-verity is, as
  * cryptsetup's page on the on-disk format and the kernel's page on fs-verity lay them out.
  */
 #ifndef LAYOUTS_H
@@ -28,16 +28,7 @@ enum {
     LAST_PAD_SIZE = 168
 };
 
-/* A descriptor. Its first four fields are one byte each. */
-enum {
-    FILE_VERSION_AT = 0,
-    FILE_ALGORITHM_AT = 1,
-    FILE_BLOCK_SIZE_AT = 2,
-    FILE_SALT_SIZE_AT = 3,
-    FILE_SIZE_AT = 8,
-    FILE_ROOT_AT = 16,
-    FILE_SALT_AT = 80,
-    DESCRIPTOR_SIZE = 256
-};
+/* A descriptor. */
+enum { DESCRIPTOR_SIZE = 256 };
 
 #endif

@@ -16,16 +16,6 @@ needs_other veritysetup cryptsetup-bin
 RANDOM=$SEED
 export ASAN_OPTIONS=detect_leaks=0
 
-# same_image NAME: made.hash is tree.hash of Debian's veritysetup, which after the superblock of a single data block,
-# that has no tree, leaves zeros up to the next hash block.
-same_image() {
-    if [ "$(stat -c %s "$scratch/tree.data")" -lt 8192 ]; then
-        head -c 512 "$scratch/tree.hash" >"$scratch/cut"
-        mv "$scratch/cut" "$scratch/tree.hash"
-    fi
-    same_bytes "$1" "$scratch/tree.hash" "$scratch/made.hash"
-}
-
 # ------------------------------------------------ parallel_format ------------------------------------------------
 
 # formats NAME THREADS: parallel_format makes what Debian's veritysetup has made of tree.data, in tree.hash.
@@ -33,7 +23,7 @@ formats() {
     rm -f "$scratch/made.hash"
     runs "parallel_format format: $1, $2 threads" 0 "$root" '' timeout $LONGEST "$parallel_format" format "$2" \
         "$scratch/tree.data" "$scratch/made.hash" "$SALT" $UUID
-    same_image "parallel_format format: $1, $2 threads"
+    same_bytes "parallel_format format: $1, $2 threads" "$scratch/tree.hash" "$scratch/made.hash"
 }
 
 # verdict NAME STATUS MESSAGE [ROOT]: what parallel_format says of the files by each number of threads, and this
@@ -128,10 +118,13 @@ refused_words() {
     runs 'parallel_format: DATA and HASH are one file' 2 '' 'HASH: is the file DATA' "$parallel_format" format 2 \
         "$scratch/tree.data" "$scratch/tree.data" "$SALT" $UUID
     : >"$scratch/none.data"
-    runs 'parallel_format: empty data' 2 '' 'verity_level_count: no data blocks' "$parallel_format" format 2 \
-        "$scratch/none.data" "$scratch/none.hash" - $UUID
+    cp "$scratch/tree.hash" "$scratch/made.hash"
+    runs 'parallel_format: empty data' 2 '' 'verity_write_superblock: no data blocks' "$parallel_format" format 2 \
+        "$scratch/none.data" "$scratch/made.hash" - $UUID
+    same_bytes 'parallel_format: empty data, HASH stays' "$scratch/tree.hash" "$scratch/made.hash"
     runs 'parallel_format: a short UUID' 2 '' 'UUID: not 16 bytes' "$parallel_format" format 2 "$scratch/tree.data" \
         "$scratch/none.hash" - 1234
+    absent 'parallel_format: a short UUID' "$scratch/none.hash"
 }
 
 if build examples/parallel_format.c gcc; then
@@ -160,7 +153,7 @@ plans() {
 # joins NAME: the parts are joined, and HASH is what Debian's veritysetup has made.
 joins() {
     runs "join_parts join: $1" 0 "$root" '' "$scratch/join_parts" join "$scratch/made.hash" "$scratch/folder"
-    same_image "join_parts join: $1"
+    same_bytes "join_parts join: $1" "$scratch/tree.hash" "$scratch/made.hash"
 }
 
 # each NUMBER..: builds parts, up to four at a time.

@@ -4,6 +4,7 @@
  *   parameters checks                      each answer that is known without other programs, and each refusal;
  *                                          the last line is 'N passed, M failed'
  *   parameters functions                   a line for each hash function: its number, its name, its digests' length
+ *   parameters defaults BLOCKS SALT UUID   the superblock of the defaults with these bytes, all in hexadecimal
  *   parameters end HASH OFFSET             where the hash area ends whose superblock stands at this byte of HASH
  *   parameters bare TYPE DATA-SIZE HASH-SIZE BLOCKS OFFSET
  *                                          where one without a superblock ends, by SHA-256
@@ -106,6 +107,31 @@ static void try_same_params(void)
             status = compare(&other, &changed);
             check(status == VERITY_NO_DATA, "no data before %s of the trusted: status %d", changes[i].name, status);
         }
+    }
+}
+
+/* -------------------------------------------------- Defaults -------------------------------------------------- */
+
+static void try_defaults(void)
+{
+    static const struct {
+        uint64_t blocks;
+        int status;
+    } rows[] = {{0, VERITY_NO_DATA}, {1, VERITY_OK}, {300, VERITY_OK}, {LARGEST / 4096, VERITY_OK},
+                {LARGEST / 4096 + 1, VERITY_TOO_LARGE}, {UINT64_MAX, VERITY_TOO_LARGE}};
+    struct verity_params params, wanted;
+    size_t i;
+    int status;
+
+    for (i = 0; i < sizeof rows / sizeof *rows; i++) {
+        memset(&params, 0x5a, sizeof params);
+        wanted = params;
+        if (rows[i].status == VERITY_OK)
+            wanted = (struct verity_params){.hash_algorithm = VERITY_SHA256, .hash_type = 1, .data_block_size = 4096,
+                                            .hash_block_size = 4096, .data_blocks = rows[i].blocks};
+        status = call_default_params(rows[i].blocks, &params);
+        check(status == rows[i].status, "defaults of %" PRIu64 " blocks: status %d", rows[i].blocks, status);
+        check_same(&wanted, &params, sizeof params, "verity_default_params", "parameters");
     }
 }
 
@@ -344,6 +370,24 @@ static int prints_functions(void)
     return 0;
 }
 
+static int prints_defaults(char **words)
+{
+    uint8_t superblock[SUPERBLOCK_SIZE];
+    struct verity_params params;
+    size_t i;
+
+    if (verity_default_params(number_of(words[0]), &params) < 0)
+        give_up("there are no such defaults");
+    params.salt_size = (uint32_t)bytes_of_text(words[1], params.salt, sizeof params.salt);
+    if (bytes_of_text(words[2], params.uuid, sizeof params.uuid) != sizeof params.uuid ||
+        verity_write_superblock(&params, superblock, sizeof superblock) < 0)
+        give_up("the defaults have no superblock");
+    for (i = 0; i < sizeof superblock; i++)
+        printf("%02x", superblock[i]);
+    printf("\n");
+    return 0;
+}
+
 static int prints_end(const char *name, const char *offset)
 {
     uint8_t superblock[SUPERBLOCK_SIZE];
@@ -410,6 +454,8 @@ int main(int count, char **words)
 
     if (strcmp(wanted, "functions") == 0)
         return prints_functions();
+    if (strcmp(wanted, "defaults") == 0 && count == 5)
+        return prints_defaults(words + 2);
     if (strcmp(wanted, "end") == 0 && count == 4)
         return prints_end(words[2], words[3]);
     if (strcmp(wanted, "bare") == 0 && count == 7)
@@ -427,6 +473,7 @@ int main(int count, char **words)
         give_up("the words can't be read");
     seed_random(1);
     try_same_params();
+    try_defaults();
     try_texts();
     try_names();
     try_ends();

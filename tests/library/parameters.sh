@@ -1,8 +1,9 @@
 #!/usr/bin/env bash
 # What the library says of parameters, hash functions and statuses by themselves: whether parameters are the trusted
-# ones, where a hash area ends and how long a tree is, names, lengths of digests, formatted digests, texts and the
-# version. Beside Debian's programs: a hash area ends where the file of veritysetup does, and fsverity writes trees of
-# just that length and formatted digests of just these bytes. Names and lengths of digests are those of coreutils'
+# ones, the defaults, where a hash area ends and how long a tree is, names, lengths of digests, formatted digests, texts
+# and the version. Beside Debian's programs: the superblock that veritysetup writes without an option is that of the
+# defaults, a hash area ends where the file of veritysetup does, and fsverity writes trees of just that length and
+# formatted digests of just these bytes. Names and lengths of digests are those of coreutils'
 # programs. With the static library, with the shared one, and under sanitizers. LIB=FOLDER takes the library of another
 # folder.
 set -u
@@ -50,6 +51,10 @@ says "$version $version" version
 # Images: hash function, hash type, data block size, hash block size, number of blocks, hash offset.
 if command -v veritysetup >/dev/null; then
     head -c $((300 * 4096)) /dev/zero >"$scratch/data"
+    runs 'veritysetup format' 0 any '' veritysetup format "$scratch/data" "$scratch/hashes"
+    superblock=$(head -c 512 "$scratch/hashes" | od -An -v -tx1 | tr -d ' \n')
+    # 32 bytes of salt from byte 88 on, and the UUID from byte 16 on.
+    says "$superblock" defaults 300 "${superblock:176:64}" "${superblock:32:32}"
     while read -r hash type data_block_size hash_block_size count offset; do
         rm -f "$scratch/hashes"
         options=(--hash "$hash" --format "$type" --data-block-size "$data_block_size"

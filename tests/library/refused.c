@@ -59,6 +59,7 @@ static uint32_t function;
         return __VA_ARGS__; \
     }
 
+CALL(default_params, call_default_params(tree->device.data_blocks, &found))
 CALL(read_superblock, call_read_superblock(bytes_of(now.superblock, now.superblock_length), 0, &found))
 CALL(level_count, call_level_count(tree, &number))
 CALL(level_start, call_level_start(tree, now.level, &start, &blocks))
@@ -251,6 +252,7 @@ static const struct row {
     int kind;
     const struct fault *faults[24];
 } rows[] = {
+    {"verity_default_params", default_params, DEVICE, {&no_data, &too_large}},
     {"verity_read_superblock", read_superblock, DEVICE,
      {&short_superblock, &signature, &version, &type, &data_block_size, &hash_block_size, &algorithm, &salt, &no_data,
       &too_large}},
@@ -533,7 +535,7 @@ static bool has_fault(const struct row *row, int status)
     return false;
 }
 
-/* A number is refused by each function that looks at it, or accepted. Superblocks have tests of their own. */
+/* A number is refused by each function that looks at it, or accepted. Superblocks and defaults are tested apart. */
 static void try_limit(const struct limit *limit, uint64_t number_in_field)
 {
     struct building *building;
@@ -551,6 +553,7 @@ static void try_limit(const struct limit *limit, uint64_t number_in_field)
         /* The computation that other expected values rest on says the same. */
         check(shape_of(&building->tree).status == limit->status, "%" PRIu64 ": expected otherwise", number_in_field);
         if ((row->kind != limit->kind && !is_tree) || row->call == read_superblock ||
+            row->call == default_params ||
             !(limit->status == VERITY_OK ? row->call == level_count : has_fault(row, limit->status)))
             continue;
         memcpy(memories, kept, sizeof memories);

@@ -1,16 +1,19 @@
 #!/usr/bin/env bash
-# Runs both programs with each combination of closed standard streams: what they leave in files is the same, and nothing
-# meant for a stream lands in a file. And where they may have only so many files open, the null devices in place of the
-# streams among them.
+# Runs both programs with each combination of closed standard streams: what they leave in files is the same, nothing
+# meant for a stream lands in a file, and no name of a descriptor is taken for a file that wasn't open. And where they
+# may have only so many files open, what is held in place of the streams among them.
 set -u
 cd "$(dirname "$0")/../.."
 . tests/lib/checks.sh
 . tests/lib/stated_images.sh
 . tests/lib/digests.sh
+. tests/lib/without_devices.sh
 has_program fsverity
 has_program veritysetup
 fsverity=$BIN/fsverity
 veritysetup=$BIN/veritysetup
+# Of the first ten descriptors just the streams are open.
+exec 3<&- 4<&- 5<&- 6<&- 7<&- 8<&- 9<&-
 
 # prints NAME STATUS TEXT MESSAGE COMMAND..: a command that prints a text if standard output is open, and ends with
 # this status and message if it is closed; the message is seen if standard error is open.
@@ -74,6 +77,74 @@ hash_devices() {
     same_bytes "$name: the hash file" "$scratch/stated_before" "$stated"
 }
 
+# What the commands of `takes` find, and what they leave: three inputs, and the streams' files 0, 1 and 2.
+found=$scratch/found
+expected=$scratch/expected
+mkdir "$found"
+cp "$data" "$stated" "$file" "$found"
+cp -r "$found" "$expected"
+sample 9000 >"$scratch/longer"
+
+# takes NAME TEXT SECOND GIVEN LEFT COMMAND..: a command takes the names of ten descriptors in the folder `at`, one
+# after another, in place of the word @; `within` has what begins it. An open stream's name leads to the stream's file,
+# with the bytes of GIVEN before and of LEFT after, and TEXT is printed. Any other can't be opened, since nothing was
+# open there when the program began, and nothing is made or changed. But once three files are held open DATA gets the
+# next number, whose name is its second one: with that, SECOND is the message, if there is one.
+takes() {
+    local name=$1 text=$2 second=$3 given=$4 left=$5 number word status printed message ended
+    local streams=${closed// /} fault=4 unopened='Cannot open' unwritten='Cannot write output.'
+    shift 5
+    if [ "$1" = "$fsverity" ]; then
+        fault=1 unopened='fsverity: cannot open' unwritten='fsverity: cannot write output.'
+    fi
+    for number in {0..9}; do
+        word=$at/$number status=$fault printed='' ended=0
+        message="$unopened $word."
+        truncate -s 0 "$found"/{0,1,2} "$expected"/{0,1,2}
+        if [ -e "$found/hash" ]; then rm -f "$found/hash" "$expected/hash"; fi
+        if [ $number -lt 3 ] && [[ $closed != *$number* ]]; then
+            status=0 printed=${text//@/$word} message=''
+            if [[ $closed = *1* && -n $text ]]; then status=$fault message=$unwritten; fi
+            cp "$given" "$found/$number"
+            cp "$left" "$expected/$number"
+            if [ "${!#}" = "$found/hash" ]; then cp "$stated" "$expected/hash"; fi
+        elif [ $number -eq $((6 - ${#streams})) ] && [ -n "$second" ]; then
+            status=1 message=$second
+        fi
+        if [[ $closed != *1* ]]; then printf %s "${printed:+$printed$'\n'}" >>"$expected/1"; fi
+        if [[ $closed != *2* ]]; then printf %s "${message:+$message$'\n'}" >>"$expected/2"; fi
+        with_closed "$closed" "${within[@]}" "${@/#@/$word}" <"$found/0" >>"$found/1" 2>>"$found/2" || ended=$?
+        same "$name as $word, '$closed' closed: status" $status $ended
+        same "$name as $word, '$closed' closed: what is left" '' "$(diff -r "$expected" "$found" 2>&1)"
+    done
+}
+
+# descriptors FOLDER WORD..: each command takes the names of descriptors in this folder, begun by these words.
+descriptors() {
+    local at=$1 within=("${@:2}") image=("${image_17_options[@]}") digest=${line%% *}
+    takes DATA "$(report "$found/hash" 512 512 17 - "$root")" '' "$data" "$data" \
+        "$veritysetup" format "${image[@]}" @ "$found/hash"
+    takes HASH "$(report @ 512 512 17 - "$root")" 'Data area and hash area overlap.' /dev/null "$stated" \
+        "$veritysetup" format "${image[@]}" "$found/data" @
+    takes 'HASH of dump' "$(report @ 512 512 17 -)" '' "$stated" "$stated" "$veritysetup" dump @
+    takes 'DATA of verify' '' '' "$data" "$data" "$veritysetup" verify @ "$found/stated" "$root"
+    takes 'HASH of verify' '' 'No verity superblock.' "$stated" "$stated" \
+        "$veritysetup" verify "$found/data" @ "$root"
+    takes FILE "$digest @" '' "$file" "$file" "$fsverity" digest @
+    takes 'the tree' "$digest $found/file" '' "$scratch/longer" "$scratch/tree_expected" \
+        "$fsverity" digest --out-merkle-tree @ "$found/file"
+    takes 'the descriptor' "$digest $found/file" '' "$scratch/longer" "$scratch/descriptor_expected" \
+        "$fsverity" digest --out-descriptor @ "$found/file"
+}
+
+# Other names of descriptors, and one of a descriptor that is open.
+other_names() {
+    runs 'standard input, closed' 1 '' 'fsverity: cannot open /dev/stdin.' with_closed 0 "$fsverity" digest /dev/stdin
+    runs 'descriptor 3 in /proc' 4 '' 'Cannot open /proc/self/fd/3.' \
+        "$veritysetup" format "${image_17_options[@]}" "$data" /proc/self/fd/3
+    runs 'descriptor 3, open' 0 "${line%% *} /dev/fd/3" '' "$fsverity" digest /dev/fd/3 3<"$file"
+}
+
 # ends_in_turn NAME ENDS COMMAND..: the command ends in these ways, one after another, the more files it may have open.
 # An end is what it prints, and a line with its status. A loader that can't open a library ends with 127.
 ends_in_turn() {
@@ -132,6 +203,13 @@ for closed in '' 0 1 2 '0 1' '0 2' '1 2' '0 1 2'; do
     sample 9000 >"$scratch/made"
     digests_to tree made
     hash_devices
+    # Of what qemu runs each start takes long.
+    if ! is_imitated || [ "$closed" = '' ] || [ "$closed" = '0 1 2' ]; then
+        descriptors /dev/fd
+        if can_hide_devices; then descriptors /proc/self/fd "${without_devices[@]}"; fi
+    fi
 done
+if ! can_hide_devices; then echo "left out: names of descriptors without /dev: it can't be hidden here"; fi
+other_names
 few_open_files
 finish

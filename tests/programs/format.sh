@@ -107,6 +107,9 @@ areas() {
     runs 'no superblock' 0 "$(report "$hash" 512 512 17 - "$root" | bare)" '' \
         "$veritysetup" format --no-superblock "${image_17_options[@]}" "$data" "$hash"
     same_bytes 'no superblock: the tree alone' "$tree" "$hash"
+    # What verify takes by the same options, but for --uuid, which it doesn't have.
+    runs 'no superblock: verify by the same options' 0 '' '' \
+        "$veritysetup" verify --no-superblock "${image_17_options[@]:0:4}" "$data" "$hash" "$root"
 
     sample 8192 >"$hash"
     { head -c 8192 "$hash" && cat "$tree"; } >"$scratch/expected"

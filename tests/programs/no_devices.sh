@@ -4,14 +4,11 @@ set -u
 cd "$(dirname "$0")/../.."
 . tests/lib/checks.sh
 . tests/lib/stated_images.sh
+. tests/lib/without_devices.sh
 has_program fsverity
 has_program veritysetup
 
-# A name space of its own, in which an empty file system stands over /dev.
-without_devices=(unshare --mount)
-if [ "$(id -u)" -ne 0 ]; then without_devices=(unshare --map-root-user --mount); fi
-without_devices+=(sh -c 'mount -t tmpfs none /dev && exec "$@"' -)
-if ! "${without_devices[@]}" test ! -e /dev/null 2>/dev/null; then
+if ! can_hide_devices; then
     echo "$0: /dev can't be hidden here"
     exit $LEFT_OUT
 fi

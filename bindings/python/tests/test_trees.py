@@ -446,13 +446,19 @@ class Reading(unittest.TestCase):
         try:
             for kind in TimeoutError, ValueError, StopIteration, KeyboardInterrupt:
                 # 20 data blocks and three hash blocks are read.
-                for left[0] in range(1, 24):
+                for left_before in range(1, 24):
+                    left[0] = left_before
                     files = Slow(image.data), Slow(image.hashes)
                     file, found = verity.CheckedFile(*files, image.params, image.root), b""
                     with self.assertRaisesRegex(kind, "it takes too long"):
                         for _ in range(20):
                             found += file.read(2000)
                     self.assertEqual(found + file.read(), image.data)
+                    # All at once: then no byte was handed out.
+                    left[0], file = left_before, verity.CheckedFile(*files, image.params, image.root)
+                    with self.assertRaisesRegex(kind, "it takes too long"):
+                        file.read()
+                    self.assertEqual(file.read(), image.data)
         finally:
             signal.signal(signal.SIGALRM, before)
 
@@ -469,6 +475,19 @@ class Reading(unittest.TestCase):
                 file.read(100)
             silent[0] = False
             self.assertEqual(file.read(), image.data)
+
+    def test_no_more_bytes_yet(self):
+        """A file that has no bytes after the third block ends the read, and is asked again by the next."""
+        image, left = Image(17, 20), [4]
+
+        class Silent(io.BytesIO):
+            def read(self, size=-1):
+                left[0] -= 1
+                return None if left[0] == 0 else super().read(size)
+
+        file = verity.CheckedFile(Silent(image.data), io.BytesIO(image.hashes), image.params, image.root)
+        self.assertEqual(file.read(2000), image.data[:1536])
+        self.assertEqual(file.read(), image.data[1536:])
 
     def test_buffers(self):
         file = Image(11).opened()

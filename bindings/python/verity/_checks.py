@@ -85,6 +85,15 @@ class CheckedFile(io.RawIOBase):
         with memoryview(buffer).cast("B") as room:
             return self._alone(self._fill, room)
 
+    def readall(self) -> bytes:
+        place = self.tell()
+        try:
+            return super().readall()
+        except BaseException:
+            # What was read until then is handed to nobody, so it is read again.
+            self._place = place
+            raise
+
     def __reduce__(self) -> Any:
         raise TypeError(f"a {type(self).__name__} can't be pickled or copied")
 
@@ -118,8 +127,9 @@ class CheckedFile(io.RawIOBase):
             except (Error, OSError) as fault:
                 if count == 0:
                     raise
-                # An `Error` comes again. An OSError may not: it may be the TimeoutError of a signal's handler.
-                if isinstance(fault, OSError):
+                # An `Error` comes again, and that there are no bytes yet may be over by then. Another OSError may not
+                # come again: it may be the TimeoutError of a signal's handler.
+                if isinstance(fault, OSError) and not isinstance(fault, BlockingIOError):
                     self._late = fault
                 break
             piece = block[begin : begin + len(room) - count]

@@ -2,7 +2,7 @@ pub mod Options
 pub mod Arguments
 pub mod LineFaults
 pub mod Writing
-pub mod NullFiles
+pub mod Placeholders
 pub mod SystemWords
 pub mod InnerStreams
 pub mod Progress

@@ -1,5 +1,5 @@
 -- What the line that shows the progress of long work says of it; this project's own.
-use Rattle.std.specs.Prelude.{ℕ, ◌+◌, ◌-◌, ◌*◌, ◌/◌, ◌%◌, ◌||◌, List, ◌++◌, Option, Some, None, if◌then◌else◌, nat_eq, nat_le, nat_lt, codes}
+use Rattle.std.specs.Prelude.{ℕ, ◌-◌, ◌*◌, ◌/◌, ◌%◌, ◌||◌, List, ◌++◌, Option, Some, None, if◌then◌else◌, nat_eq, nat_le, nat_lt, codes}
 use Rattle.std.specs.Fmt.{decimal}
 
 -- how many whole hundredths of the work are done

@@ -11,10 +11,11 @@ mod writing;
 pub use files::identity::{
     FileIdentity, Identities, StatFields, are_same_file, paths_are_same_file,
 };
-pub use files::null_files::{NULL_DEVICE, NullFiles};
 pub use files::opening::{
-    MeasuredFile, OpenedFile, is_folder, open_measured, open_readable, open_writable,
+    MeasuredFile, OpenedFile, is_folder, open_measured, open_or_create, open_readable,
+    open_writable,
 };
+pub use files::placeholders::{NULL_DEVICE, Placeholders};
 pub use options::algorithms::algorithm_or_default;
 pub use options::numbers::{DEFAULT_BLOCK_SIZE, number_or, read_number};
 pub use options::salts::read_salt;

@@ -185,6 +185,6 @@ impl Scene {
     /// The output file of an option is opened and emptied.
     fn empties(&mut self, name: &'static str, option: &str) -> Result<(), AllocError> {
         self.words.push_str(option)?;
-        self.opens(name, Effect::Emptied(name))
+        self.opens_to_write(name, Effect::Emptied(name))
     }
 }

@@ -50,7 +50,8 @@ pub struct Scene {
 }
 
 impl Scene {
-    /// A command with these words and no files, which opens the null device for each standard stream.
+    /// A command with these words and no files, which opens a placeholder for each standard stream. The null device is
+    /// the last that is tried.
     pub fn new(alloc: Global, program: Program, words: String) -> Result<Scene, AllocError> {
         let mut scene = Scene {
             alloc,
@@ -97,6 +98,14 @@ impl Scene {
         let message = self.program.unopened(self.alloc, name)?;
         self.steps.push(Step::Calls(Call::Open, message, effect))?;
         Ok(())
+    }
+
+    /// A file is opened to be written. If it isn't there, it is opened once more, to be made.
+    pub fn opens_to_write(&mut self, name: &'static str, effect: Effect) -> Result<(), AllocError> {
+        if !self.files.iter().any(|(other, _)| *other == name) {
+            self.opens(name, Effect::Nothing)?;
+        }
+        self.opens(name, effect)
     }
 
     /// A file is opened to be read, if the system says that it is no folder.

@@ -33,8 +33,8 @@ fn calls_on(disk: &Disk) -> io::Result<[u64; 6]> {
     Ok(calls)
 }
 
-/// The calls that may be made more or less often if a call of this kind fails: if the null device can't be opened, the
-/// root folder is tried; a seek that fails may be the end of a file; and if the system doesn't say that HASH is there,
+/// The calls that may be made more or less often if a call of this kind fails: if the root folder can't be opened,
+/// others are tried; a seek that fails may be the end of a file; and if the system doesn't say that HASH is there,
 /// its folder is synced.
 fn calls_after(call: Call) -> &'static [Call] {
     match call {
@@ -70,10 +70,10 @@ fn end_in_turn(
 }
 
 impl Scene {
-    /// A disk with the null device, the current folder and the files.
+    /// A disk with the root folder, the current folder and the files.
     fn disk(&self) -> io::Result<Disk> {
         let disk = Disk::new(self.alloc);
-        disk.make_kind("/dev/null", Kind::Character, Vec::new(self.alloc))?;
+        disk.make_kind("/", Kind::Folder, Vec::new(self.alloc))?;
         disk.make_kind(".", Kind::Folder, Vec::new(self.alloc))?;
         self.make_files(&disk)?;
         Ok(disk)

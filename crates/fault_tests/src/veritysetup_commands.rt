@@ -112,7 +112,7 @@ impl Setup {
     fn formats(&self, scene: &mut Scene) -> Result<(), AllocError> {
         scene.measures("data")?;
         scene.asks(Call::Metadata)?;
-        scene.opens(HASH, Effect::Made(HASH))?;
+        scene.opens_to_write(HASH, Effect::Made(HASH))?;
         self.writes(scene)?;
         scene.calls(Call::Sync, "Cannot write hash.img.\n", Effect::Nothing)?;
         if self.before.is_none() {

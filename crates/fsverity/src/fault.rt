@@ -37,8 +37,8 @@ pub(crate) enum Fault<'a> {
     Line(LineFault),
     /// An option is refused.
     Option(FsOptionFault),
-    /// A run over files ended at the file of this name; or an input or output file, or the null device, can't be
-    /// opened.
+    /// A run over files ended at the file of this name; or an input or output file, or a placeholder for a standard
+    /// stream, can't be opened.
     File(RunFault, &'a str),
     /// A run over the file of this name, with output files, stopped.
     Outputs(OutputFault, &'a str),

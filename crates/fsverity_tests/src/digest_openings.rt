@@ -1,47 +1,58 @@
 //! Which files the program fsverity opens, how and for how long; and names that lead elsewhere.
-use crate::program_runs::{NULL_DEVICE, TWO_READ, disk, run};
+use crate::program_runs::{TWO_READ, disk, disk_without, run};
 use fixtures::data;
 use memory_runtime::Call;
 use std::test::Fail;
 
-/// The null file that is there, command lines, their statuses, and what is opened and closed while the null files are
-/// open. The root folder serves as null file if there is no null device.
-const HELD: [(&str, &str, u8, &str); 5] = [
+/// How many of the places for a placeholder aren't there, the placeholder then, command lines, their statuses, and what
+/// is opened and closed while the placeholders are open.
+const HELD: [(usize, &str, &str, u8, &str); 6] = [
+    (0, "/", "fsverity digest two", 0, "open two\nclose two\n"),
     (
-        NULL_DEVICE,
-        "fsverity digest two",
         0,
-        "open two\nclose two\n",
-    ),
-    (
-        NULL_DEVICE,
+        "/",
         "fsverity digest two empty",
         0,
         "open two\nclose two\nopen empty\nclose empty\n",
     ),
     (
-        NULL_DEVICE,
+        0,
+        "/",
         "fsverity digest two missing empty",
         1,
         "open two\nclose two\n",
     ),
     (
-        NULL_DEVICE,
+        0,
+        "/",
         "fsverity digest --out-merkle-tree tree --out-descriptor made two",
         0,
         "open two\nopen tree\nopen made\nclose made\nclose tree\nclose two\n",
     ),
-    ("/", "fsverity digest empty", 0, "open empty\nclose empty\n"),
+    (
+        1,
+        "/proc",
+        "fsverity digest empty",
+        0,
+        "open empty\nclose empty\n",
+    ),
+    (
+        2,
+        "/dev/null",
+        "fsverity digest empty",
+        0,
+        "open empty\nclose empty\n",
+    ),
 ];
 
 #[test]
-fn null_files_are_open_to_the_end(rt: HostRuntime) -> Result<(), Fail> {
+fn placeholders_are_open_to_the_end(rt: HostRuntime) -> Result<(), Fail> {
     let alloc = rt.alloc();
-    for &(null, words, status, held) in &HELD {
-        let disk = disk(alloc, null)?;
+    for &(places, held, words, status, files) in &HELD {
+        let disk = disk_without(alloc, places)?;
         let output = run(alloc, &disk, words);
         let expected = format!(in alloc;
-            "open {null}\nopen {null}\nopen {null}\n{held}close {null}\nclose {null}\nclose {null}\n"
+            "open {held}\nopen {held}\nopen {held}\n{files}close {held}\nclose {held}\nclose {held}\n"
         )?;
         let found = (output.status, disk.held()?);
         assert_eq!(rt; found, (status, expected), "at {words}");
@@ -64,20 +75,20 @@ const LED: [(&[(&str, &str, &str)], &str, &str, &str); 4] = [
         &[("two", "two", "other")],
         "fsverity digest --out-descriptor other two",
         "",
-        "other: write truncate create\n",
+        "other: write truncate\n",
     ),
     // The tree's file has the name later as soon as it is made, and its old name leads to another.
     (
         &[("new", "later", "new"), ("new", "new", "other")],
         "fsverity digest --out-merkle-tree new --out-descriptor later two",
         "fsverity: cannot open later.\n",
-        "new: write truncate create\n",
+        "new: write truncate\nnew: write truncate create\n",
     ),
     (
         &[("new", "new", "other")],
         "fsverity digest --out-merkle-tree new --out-descriptor other two",
         "",
-        "new: write truncate create\nother: write truncate create\n",
+        "new: write truncate\nnew: write truncate create\nother: write truncate\n",
     ),
 ];
 
@@ -86,7 +97,7 @@ const LED: [(&[(&str, &str, &str)], &str, &str, &str); 4] = [
 fn an_opened_file_is_known_whatever_its_name_leads_to(rt: HostRuntime) -> Result<(), Fail> {
     let alloc = rt.alloc();
     for (leads, words, text, opened) in &LED {
-        let disk = disk(alloc, NULL_DEVICE)?;
+        let disk = disk(alloc)?;
         for &(name, other, target) in leads.iter() {
             disk.lead(name, other, target)?;
         }
@@ -110,12 +121,12 @@ fn an_opened_file_is_known_whatever_its_name_leads_to(rt: HostRuntime) -> Result
 #[test]
 fn output_files_are_opened_to_be_written_alone(rt: HostRuntime) -> Result<(), Fail> {
     let alloc = rt.alloc();
-    let disk = disk(alloc, NULL_DEVICE)?;
+    let disk = disk(alloc)?;
     let words = "fsverity digest --out-merkle-tree tree --out-descriptor made two";
     let status = run(alloc, &disk, words).status;
     let opened = disk.opened()?;
     let expected = format!(in alloc;
-        "{TWO_READ}tree: write truncate create\nmade: write truncate create\n"
+        "{TWO_READ}tree: write truncate\ntree: write truncate create\nmade: write truncate\nmade: write truncate create\n"
     )?;
     assert_eq!(rt; (status, opened), (0, expected));
     Ok(())
@@ -131,7 +142,7 @@ fn only_an_input_file_needs_the_system_to_say_what_it_is(rt: HostRuntime) -> Res
     let alloc = rt.alloc();
     let words = "fsverity digest --out-merkle-tree tree --out-descriptor made two";
     for &(number, text) in &UNANSWERED {
-        let disk = disk(alloc, NULL_DEVICE)?;
+        let disk = disk(alloc)?;
         disk.fail(Call::Metadata, number)?;
         let output = run(alloc, &disk, words);
         let found = (output.status, output.msgs.as_slice(), disk.has("made")?);

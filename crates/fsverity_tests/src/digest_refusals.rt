@@ -1,5 +1,5 @@
 //! What the program fsverity refuses, which leaves all files as they are: words, options, and names of files.
-use crate::program_runs::{NULL_DEVICE, TWO_READ, disk, output_of, run};
+use crate::program_runs::{TWO_READ, disk, output_of, run};
 use memory_runtime::{Call, MemoryRuntime};
 use std::test::Fail;
 
@@ -21,8 +21,7 @@ Usage: fsverity digest [--hash-alg NAME] [--block-size BYTES] [--salt HEX]
 ";
 
 /// What is opened if the block device is the input file, and no other.
-const BLOCK_DEVICE_READ: &str =
-    "/dev/null: read\n/dev/null: read\n/dev/null: read\nblock_device: read\n";
+const BLOCK_DEVICE_READ: &str = "/: read\n/: read\n/: read\nblock_device: read\n";
 
 /// Command lines, the message, and what is opened: nothing, if the line or an option is refused with status 2. Of files
 /// there are a missing one and a folder as the input file; an output file that is the input file, or the other output
@@ -53,12 +52,12 @@ Usage: fsverity digest [--hash-alg NAME] [--block-size BYTES] [--salt HEX]
     (
         "fsverity digest missing",
         "fsverity: cannot open missing.\n",
-        "/dev/null: read\n/dev/null: read\n/dev/null: read\nmissing: read\n",
+        "/: read\n/: read\n/: read\nmissing: read\n",
     ),
     (
         "fsverity digest folder",
         "fsverity: cannot open folder.\n",
-        "/dev/null: read\n/dev/null: read\n/dev/null: read\nfolder: read\n",
+        "/: read\n/: read\n/: read\nfolder: read\n",
     ),
     (
         "fsverity digest --out-merkle-tree two --out-descriptor made two",
@@ -108,7 +107,7 @@ Usage: fsverity digest [--hash-alg NAME] [--block-size BYTES] [--salt HEX]
     (
         "fsverity digest --out-merkle-tree new --out-descriptor new two",
         "fsverity: cannot open new.\n",
-        "/dev/null: read\n/dev/null: read\n/dev/null: read\ntwo: read\nnew: write truncate create\n",
+        "/: read\n/: read\n/: read\ntwo: read\nnew: write truncate\nnew: write truncate create\n",
     ),
 ];
 
@@ -117,7 +116,7 @@ Usage: fsverity digest [--hash-alg NAME] [--block-size BYTES] [--salt HEX]
 fn refusals_change_no_file(rt: HostRuntime) -> Result<(), Fail> {
     let alloc = rt.alloc();
     for &(words, text, opened) in &REFUSED {
-        let disk = disk(alloc, NULL_DEVICE)?;
+        let disk = disk(alloc)?;
         let output = run(alloc, &disk, words);
         let status = if opened.is_empty() { 2 } else { 1 };
         let differs = output.differs(status, b"", text.as_bytes());
@@ -131,7 +130,7 @@ fn refusals_change_no_file(rt: HostRuntime) -> Result<(), Fail> {
 #[test]
 fn a_word_that_is_not_utf8_is_refused(rt: HostRuntime) -> Result<(), Fail> {
     let alloc = rt.alloc();
-    let disk = disk(alloc, NULL_DEVICE)?;
+    let disk = disk(alloc)?;
     let mut runtime = MemoryRuntime::new(alloc, &disk, "fsverity digest");
     runtime.last_word = Some(b"\xff");
     let text = b"error: argument 2 is not UTF-8: \\xff\n";

@@ -1,5 +1,5 @@
 //! Words of more than 1024 bytes, with ample memory: names of files, the values of options, and words that are refused.
-use crate::program_runs::{NULL_DEVICE, run};
+use crate::program_runs::run;
 use fixtures::descriptor;
 use fsverity::{DigestFault, digest_message};
 use memory_runtime::{Disk, Kind};
@@ -8,10 +8,10 @@ use std::alloc::{AllocError, Global};
 use std::io;
 use std::test::Fail;
 
-/// A disk with the null device and a file with one byte.
+/// A disk with the root folder and a file with one byte.
 pub fn disk_with(alloc: Global, name: &str) -> io::Result<Disk> {
     let disk = Disk::new(alloc);
-    disk.make_kind(NULL_DEVICE, Kind::Character, Vec::new(alloc))?;
+    disk.make_kind("/", Kind::Folder, Vec::new(alloc))?;
     disk.make(name, b"a".to_vec(alloc)?)?;
     Ok(disk)
 }

@@ -1,6 +1,6 @@
 //! More than 1000 files, with ample memory.
 use crate::long_words::{disk_with, line_of};
-use crate::program_runs::{NULL_DEVICE, disk, output_of, run};
+use crate::program_runs::{disk, output_of, run};
 use fixtures::RunOutput;
 use memory_runtime::{Disk, MemoryRuntime};
 use std::alloc::Global;
@@ -47,17 +47,14 @@ fn each_of_5000_files_has_its_line(rt: HostRuntime) -> Result<(), Fail> {
     let alloc = rt.alloc();
     let mut names = Vec::new(alloc);
     let mut lines = String::new(alloc);
-    let mut opened = String::from_str(
-        alloc,
-        "/dev/null: read\n/dev/null: read\n/dev/null: read\n",
-    )?;
+    let mut opened = String::from_str(alloc, "/: read\n/: read\n/: read\n")?;
     for number in 0..5_000usize {
         let name = NAMES[number % 3];
         names.push(String::from_str(alloc, name)?)?;
         write!(&mut lines, "{DIGEST_OF_NONE} {name}\n")?;
         write!(&mut opened, "{name}: read\n")?;
     }
-    let disk = disk(alloc, NULL_DEVICE)?;
+    let disk = disk(alloc)?;
     let output = run_with_more(alloc, &disk, "fsverity digest", names.as_slice());
     let differs = output.differs(0, lines.as_bytes(), b"");
     let found = (names.len(), differs, disk.opened()? == opened);

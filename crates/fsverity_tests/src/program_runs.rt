@@ -9,10 +9,15 @@ use std::io;
 use std::test::Fail;
 use verity_hash::Algorithm;
 
-pub const NULL_DEVICE: &str = "/dev/null";
+/// What a placeholder for a standard stream can be, in the order in which these are tried.
+const PLACES: [(&str, Kind); 3] = [
+    ("/", Kind::Folder),
+    ("/proc", Kind::Folder),
+    ("/dev/null", Kind::Character),
+];
 
 /// What is opened if the file two is the input file, and no other.
-pub const TWO_READ: &str = "/dev/null: read\n/dev/null: read\n/dev/null: read\ntwo: read\n";
+pub const TWO_READ: &str = "/: read\n/: read\n/: read\ntwo: read\n";
 
 /// A quarter of a MiB.
 const QUARTER: usize = 1 << 18;
@@ -41,10 +46,17 @@ const LINKS: [(&str, &str); 6] = [
     ("block_device", "node"),
 ];
 
-/// A disk with the files, and a null file of this name.
-pub fn disk(alloc: Global, null: &str) -> io::Result<Disk> {
+/// A disk with the files.
+pub fn disk(alloc: Global) -> io::Result<Disk> {
+    disk_without(alloc, 0)
+}
+
+/// A disk with the files, but without so many of the places that are tried first for a placeholder.
+pub fn disk_without(alloc: Global, places: usize) -> io::Result<Disk> {
     let disk = Disk::new(alloc);
-    disk.make_kind(null, Kind::Character, Vec::new(alloc))?;
+    for &(name, kind) in PLACES.iter().skip(places) {
+        disk.make_kind(name, kind, Vec::new(alloc))?;
+    }
     for &(name, kind, length) in &FILES {
         disk.make_kind(name, kind, data(alloc, length)?)?;
     }
@@ -92,7 +104,7 @@ fn a_length_is_taken_as_it_is_said(rt: HostRuntime) -> Result<(), Fail> {
     let alloc = rt.alloc();
     for &words in &ENDS_FAR {
         for &(end, message) in &ENDS {
-            let disk = disk(alloc, NULL_DEVICE)?;
+            let disk = disk(alloc)?;
             disk.end_at("three", end)?;
             let output = run(alloc, &disk, words);
             let differs = output.differs(1, b"", message.as_bytes());
@@ -139,7 +151,7 @@ fn each_option_counts(rt: HostRuntime) -> Result<(), Fail> {
     let digits = hex::encode(alloc, Sha512::digest(expected.1.as_slice()).as_slice())?;
     let line = format!(in alloc; "465356657269747902004000{digits}\n")?;
     for &(outputs, has_outputs, name) in &WITH_EACH_OPTION {
-        let disk = disk(alloc, NULL_DEVICE)?;
+        let disk = disk(alloc)?;
         let words = format!(in alloc;
             "fsverity digest --hash-alg=sha512 --block-size 0128 --salt abCD {name} --compact --for-builtin-sig{outputs}"
         )?;

@@ -1,6 +1,6 @@
 //! The progress line of long work: it is shown only on a terminal, and erased before anything else is written there
 //! and in the end.
-use crate::program_runs::{NULL_DEVICE, disk};
+use crate::program_runs::disk;
 use fixtures::{is_plain, shown_before};
 use fsverity::{ErasingWriter, ShownProgress, run_program};
 use memory_runtime::{Call, MemoryRuntime, StandardError};
@@ -19,7 +19,7 @@ type Run = (&'static str, u64, bool);
 /// if the lines go elsewhere.
 fn written(alloc: Global, run: Run, step: Option<u64>) -> io::Result<(Vec<u8>, u64, bool)> {
     let (words, failing, is_elsewhere) = run;
-    let disk = disk(alloc, NULL_DEVICE)?;
+    let disk = disk(alloc)?;
     disk.fail(Call::Write, failing)?;
     let mut runtime = MemoryRuntime::new(alloc, &disk, words);
     runtime.step = step;

@@ -13,7 +13,7 @@ use Rattle.verity_tree.specs.Links.{checked_link, checked_top}
 use Rattle.verity_tree.specs.Paths.{ChecksBlock}
 use Rattle.verity_tree.specs.declared.path.PathFault.{PathFault}
 use Rattle.verity_tree.specs.declared.path.PathFault.TheVariants.{DiffersAt}
-use Rattle.verity_c.specs.Parameters.{parameters_of}
+use Rattle.verity_c.specs.Parameters.{default_params, parameters_of, plan_of}
 use Rattle.verity_c.specs.Statuses.{done, fault_of_superblock, fault_status, link_status, path_status}
 use Rattle.verity_c.specs.declared.fault.Fault.{Fault}
 use Rattle.verity_c.specs.declared.fault.Fault.TheVariants.{Index, Level, Length, Root}
@@ -23,6 +23,15 @@ use Rattle.verity_c.specs.declared.parameters.VerityParams.{VerityParams}
 abbrev pub value_or : {A : Type 0} → A → Result A Fault → A
 value_or before (Ok value) = value
 value_or before (Err _) = before
+
+-- parameters that make a plan
+abbrev pub if_planned : Result PlanFields Fault → VerityParams → Result VerityParams Fault
+if_planned (Err fault) params = Err fault
+if_planned (Ok p) params = Ok params
+
+-- the parameters of a tree over so many data blocks for which nothing is chosen
+abbrev pub default_params_in : ℕ → Result VerityParams Fault
+default_params_in blocks = if_planned (plan_of (default_params blocks)) (default_params blocks)
 
 -- a number that a plan has
 abbrev pub number_in : Result PlanFields Fault → (PlanFields → ℕ) → Result ℕ Fault

@@ -1,7 +1,8 @@
 -- What the parameters of the library for C say: the settings and the plan that they make, or the first fault; and the
--- parameters that a superblock says. Numbers of hash functions are the Linux kernel's for fs-verity
--- (`FS_VERITY_HASH_ALG_*`) and go on from there.
-use Rattle.std.specs.Prelude.{ℕ, ◌==◌, length, take, nat_le, Option, Some, None, Result, Ok, Err, if◌then◌else◌}
+-- parameters that a superblock says, or for which nothing is chosen. Numbers of hash functions are the Linux kernel's
+-- for fs-verity (`FS_VERITY_HASH_ALG_*`) and go on from there.
+use Rattle.std.specs.Prelude.{ℕ, ◌==◌, length, take, replicate, nat_le, Option, Some, None, Result, Ok, Err}
+use Rattle.std.specs.Prelude.{if◌then◌else◌}
 use Rattle.verity_hash.specs.Hashing.{with_zeros}
 use Rattle.verity_hash.specs.declared.algorithm.Algorithm.TheVariants as algorithm
 use Rattle.verity_hash.specs.declared.algorithm.Algorithm.{Algorithm}
@@ -112,4 +113,20 @@ parameters_of v offset = record {
   salt_size = length v.tree.salt;
   salt = with_zeros most_verity_salt v.tree.salt;
   uuid = v.uuid;
+}
+
+-- the parameters of a tree over so many data blocks where no option of `veritysetup format` says otherwise
+-- (veritysetup(8)), without a salt, and with a UUID of zeros
+abbrev pub default_params : ℕ → VerityParams
+default_params blocks = record {
+  hash_algorithm = number_of algorithm.Sha256;
+  hash_type = 1;
+  data_block_size = 4096;
+  hash_block_size = 4096;
+  data_blocks = blocks;
+  hash_offset = 0;
+  no_superblock = 0;
+  salt_size = 0;
+  salt = replicate most_verity_salt 0;
+  uuid = replicate 16 0;
 }

@@ -8,6 +8,7 @@
 mod algorithms;
 mod blocks;
 mod build;
+mod defaults;
 mod fault;
 mod file_building;
 mod file_tree_building;
@@ -32,6 +33,7 @@ pub use algorithms::{
 };
 pub use blocks::{fsverity_check_block, verity_check_block};
 pub use build::{VerityBuild, VerityFed, VerityJoin, VerityPart};
+pub use defaults::verity_default_params;
 pub use file_building::{
     fsverity_build_begin, fsverity_build_end, fsverity_build_feed, fsverity_build_memory,
 };

@@ -5,7 +5,7 @@ ghost use Rattle.std.specs.Prelude.{◌≡◌};
 /// verity.h has them.
 #[unsafe(no_mangle)]
 pub extern "C" fn verity_version() -> u32
-    ensures { result ≡ 20000 }
+    ensures { result ≡ 20100 }
 {
-    2 * 10000
+    2 * 10000 + 100
 }

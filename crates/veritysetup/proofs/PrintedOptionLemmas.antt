@@ -272,12 +272,6 @@ tree_of-own_salt algorithm hash_type data_block_size hash_block_size given tree 
       hash_block = hash_block;
     }
 
--- a UUID that was read or drawn is read without random bytes too, or is none
-uuid-there : (text random : Option (List ℕ)) (uuid : List ℕ) → uuid_or_random text random ≡ Some uuid
-    → (found : List ℕ) × (uuid_or_random text None ≡ Some found)
-uuid-there (Some text) random uuid e = (uuid, e)
-uuid-there None random uuid e = (no_uuid, refl)
-
 -- the number of blocks as it was given, for the same length, or as the report prints it, for any
 given-again : (text given : Option (List ℕ)) (size last blocks unit : ℕ) (number : Option ℕ) → blocks < 2 ^ 64
     → ok_or (number_if_given text) (option.BadNumber DataBlocks) ≡ chosen number
@@ -363,20 +357,18 @@ verified-options texts size last given random s digits root planned agree bytes 
     let salt : salt_or_random (Some (salt_text s.plan.settings.salt)) None ≡ Some tree.0.salt =
     salt-back s.plan.settings.salt None bytes short
     ∙ ap (λ (t : TreeSettingsFields). Some t.salt) (sym tree_is) in
-    let id = uuid-there texts.uuid random uuid.0
-    (given-chosen (uuid_or_random texts.uuid random) option.BadUuid uuid.0 uuid.1.0) in
     let counted : count ≡ s.plan.blocks =
     sym (ap (λ (p : PlanFields). p.blocks) planned_from.plan_is) ∙ ap (λ (p : PlanFields). p.blocks) same in
     let again = given-again texts.data_blocks given size last s.plan.blocks tree.0.data_block blocks.0
     (blocks-small s.plan planned) blocks.1.0 counted blocks_given in
     let options = verify_options texts given s.plan.settings.salt digits in (
-      found (Some root) id.0,
+      found (Some root) no_uuid,
       (
         all-steps options last None format.0 data_block_size.0 hash_block_size.0 again.0 offset_bytes.0 algorithm.0
-            hash_type.0 tree.0 id.0 offset.0 plan.0 (Some root) format.1.0 data_block_size.1.0 hash_block_size.1.0
+            hash_type.0 tree.0 no_uuid offset.0 plan.0 (Some root) format.1.0 data_block_size.1.0 hash_block_size.1.0
             again.1.0 offset_bytes.1.0 algorithm.1.0 hash_type.1.0
             (ap (tree_of algorithm.0 hash_type.0 data_block_size.0 hash_block_size.0) salt ∙ own.1)
-            (ap (λ (o : Option (List ℕ)). ok_or o option.BadUuid) id.1)
+            refl
             offset.1.0
             (ap (λ (n : ℕ). accepted_plan false offset.0 (plan_at tree.0 n offset.0 b)) (again.1.1 ∙ sym counted)
             ∙ ap (accepted_plan false offset.0) (sym from))

@@ -148,8 +148,8 @@ pub fn verdicts_depend_on_what_is_covered()
 
 /// The same options give the same tree. What a report prints, given again as options with the same hash offset, gives
 /// the settings again, for data and hash area that don't overlap. So `format` with what `dump` prints leaves the same
-/// device. And `verify` by the options of `format` with the printed salt and root hash goes by the plan of `format`, for
-/// data of the same length, or with the printed number of data blocks for data of any length.
+/// device. And `verify` by the options of `format` but the UUID, with the printed salt and root hash, goes by the plan of
+/// `format`, for data of the same length, or with the printed number of data blocks for data of any length.
 pub fn printed_options_give_the_settings()
     ensures printed { (path : List ℕ) (v : SuperblockFields) (offset : ℕ) (superblock same_file : Bool)
         (root : Option (List ℕ))

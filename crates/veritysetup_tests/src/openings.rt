@@ -1,35 +1,35 @@
 //! The program over files in memory: which files it opens, in which order, what it syncs, and how long it holds each.
-use crate::program_runs::{NULL_FILES, disk_of, run};
+use crate::program_runs::{PLACEHOLDERS, disk_of, run};
 use memory_runtime::{Call, Disk, Kind};
 use std::test::Fail;
 
-const NULL_FILES_OPENED: &str = "open /dev/null\nopen /dev/null\nopen /dev/null\n";
+const PLACEHOLDERS_OPENED: &str = "open /\nopen /\nopen /\n";
 
-const NULL_FILES_CLOSED: &str = "close /dev/null\nclose /dev/null\nclose /dev/null\n";
+const PLACEHOLDERS_CLOSED: &str = "close /\nclose /\nclose /\n";
 
 /// The message for the folder, from which nothing is read.
 const NOT_OPENED: &str = "Cannot open images.\n";
 
-/// Words, what is opened after the null files, what is opened, synced and closed while these are open, and the status
+/// Words, what is opened after the placeholders, what is opened, synced and closed while these are open, and the status
 /// and the message.
 const RUNS: [(&str, &str, &str, u8, &str); 24] = [
     (
         "veritysetup format data hash",
-        "data: read\nhash: read write create\n.: read\n",
+        "data: read\nhash: read write\nhash: read write create\n.: read\n",
         "open data\nopen hash\nsync hash\nopen .\nsync .\nclose .\nclose hash\nclose data\n",
         0,
         "",
     ),
     (
         "veritysetup format --no-superblock --salt=- data hash",
-        "data: read\nhash: read write create\n.: read\n",
+        "data: read\nhash: read write\nhash: read write create\n.: read\n",
         "open data\nopen hash\nsync hash\nopen .\nsync .\nclose .\nclose hash\nclose data\n",
         0,
         "",
     ),
     (
         "veritysetup format data images/new",
-        "data: read\nimages/new: read write create\nimages: read\n",
+        "data: read\nimages/new: read write\nimages/new: read write create\nimages: read\n",
         "open data\nopen images/new\nsync images/new\nopen images\nsync images\nclose images\nclose images/new\nclose data\n",
         0,
         "",
@@ -37,7 +37,7 @@ const RUNS: [(&str, &str, &str, u8, &str); 24] = [
     // The folder of an old file isn't synced.
     (
         "veritysetup format data hash.img",
-        "data: read\nhash.img: read write create\n",
+        "data: read\nhash.img: read write\n",
         "open data\nopen hash.img\nsync hash.img\nclose hash.img\nclose data\n",
         0,
         "",
@@ -87,7 +87,7 @@ const RUNS: [(&str, &str, &str, u8, &str); 24] = [
     ),
     (
         "veritysetup format data images",
-        "data: read\nimages: read write create\n",
+        "data: read\nimages: read write\n",
         "open data\nclose data\n",
         4,
         NOT_OPENED,
@@ -197,12 +197,12 @@ fn files_are_opened_and_held_in_order(rt: HostRuntime) -> Result<(), Fail> {
         let all_opened = disk.opened()?;
         let all_held = disk.held()?;
         let found = (
-            all_opened.as_str().strip_prefix(NULL_FILES),
+            all_opened.as_str().strip_prefix(PLACEHOLDERS),
             all_held
                 .as_str()
-                .strip_prefix(NULL_FILES_OPENED)
+                .strip_prefix(PLACEHOLDERS_OPENED)
                 .unwrap_or("")
-                .strip_suffix(NULL_FILES_CLOSED),
+                .strip_suffix(PLACEHOLDERS_CLOSED),
             output.status,
             output.msgs.as_slice(),
             output.out.is_empty(),
@@ -259,11 +259,11 @@ fn an_opened_file_of_which_the_system_says_nothing_is_refused(rt: HostRuntime) -
 }
 
 #[test]
-fn the_root_folder_stands_for_the_null_device(rt: HostRuntime) -> Result<(), Fail> {
+fn the_null_device_stands_for_the_root_folder(rt: HostRuntime) -> Result<(), Fail> {
     let alloc = rt.alloc();
     let disk = Disk::new(alloc);
     disk.make("data", [5; 8192].to_vec(alloc)?)?;
-    disk.make_kind("/", Kind::Character, Vec::new(alloc))?;
+    disk.make_kind("/dev/null", Kind::Character, Vec::new(alloc))?;
     let status = run(alloc, &disk, "veritysetup format data hash").status;
     let found = (status, disk.has("hash")?);
     assert_eq!(rt; found, (0, true));

@@ -6,11 +6,12 @@ use std::io;
 use veritysetup::{ShownProgress, run_program};
 
 /// What is opened first.
-pub const NULL_FILES: &str = "/dev/null: read\n/dev/null: read\n/dev/null: read\n";
+pub const PLACEHOLDERS: &str = "/: read\n/: read\n/: read\n";
 
-/// A disk with the null device, the current folder and a file `data`.
+/// A disk with the root folder, the null device, the current folder and a file `data`.
 pub fn disk_of(alloc: Global, data: &[u8]) -> io::Result<Disk> {
     let disk = Disk::new(alloc);
+    disk.make_kind("/", Kind::Folder, Vec::new(alloc))?;
     disk.make_kind("/dev/null", Kind::Character, Vec::new(alloc))?;
     disk.make_kind(".", Kind::Folder, Vec::new(alloc))?;
     disk.make("data", data.to_vec(alloc)?)?;

@@ -1,5 +1,5 @@
 //! The hash device and the folder of a new one are synced.
-use crate::program_runs::{NULL_FILES, disk_of, run};
+use crate::program_runs::{PLACEHOLDERS, disk_of, run};
 use memory_runtime::{Call, Kind};
 use std::test::Fail;
 
@@ -27,7 +27,7 @@ fn the_folder_of_a_new_file_is_synced(rt: HostRuntime) -> Result<(), Fail> {
         let words = format!(in alloc; "veritysetup format data {path}")?;
         let status = run(alloc, &disk, words.as_str()).status;
         let opened = format!(in alloc;
-            "{NULL_FILES}data: read\n{path}: read write create\n{folder}: read\n"
+            "{PLACEHOLDERS}data: read\n{path}: read write\n{path}: read write create\n{folder}: read\n"
         )?;
         let held = format!(in alloc; "\nopen {folder}\nsync {folder}\nclose {folder}\n")?;
         let is_synced = disk.held()?.as_str().contains(held.as_str());
@@ -64,9 +64,7 @@ fn a_file_of_which_the_system_says_nothing_counts_as_new(rt: HostRuntime) -> Res
     disk.make("hash.img", [0; 8192].to_vec(alloc)?)?;
     disk.fail(Call::Metadata, 2)?;
     let output = run(alloc, &disk, "veritysetup format data hash.img");
-    let expected = format!(in alloc;
-        "{NULL_FILES}data: read\nhash.img: read write create\n.: read\n"
-    )?;
+    let expected = format!(in alloc; "{PLACEHOLDERS}data: read\nhash.img: read write\n.: read\n")?;
     let found = (output.status, disk.opened()?, disk.calls(Call::Sync)?);
     assert_eq!(rt; found, (0, expected, 2));
     Ok(())

@@ -1,5 +1,5 @@
 //! Two names of one file, as DATA and as HASH: data is never overwritten.
-use crate::program_runs::{NULL_FILES, disk_of, run};
+use crate::program_runs::{PLACEHOLDERS, disk_of, run};
 use memory_runtime::{Disk, Kind};
 use std::test::Fail;
 
@@ -28,13 +28,13 @@ fn data_is_never_overwritten(rt: HostRuntime) -> Result<(), Fail> {
     let alloc = rt.alloc();
     for &(kind, words) in &OVERLAPS {
         let disk = Disk::new(alloc);
-        disk.make_kind("/dev/null", Kind::Character, Vec::new(alloc))?;
+        disk.make_kind("/", Kind::Folder, Vec::new(alloc))?;
         disk.make_kind("data", kind, [5; 8192].to_vec(alloc)?)?;
         disk.link("data", "other")?;
         let message = b"Data area and hash area overlap.\n";
         let differs = run(alloc, &disk, words).differs(1, b"", message);
         let opened = disk.opened()?;
-        let found = (differs, opened.as_str().strip_prefix(NULL_FILES));
+        let found = (differs, opened.as_str().strip_prefix(PLACEHOLDERS));
         assert_eq!(rt; found, (None, Some("data: read\n")), "at {words}");
     }
     Ok(())
@@ -44,7 +44,7 @@ fn data_is_never_overwritten(rt: HostRuntime) -> Result<(), Fail> {
 /// else, and the opened file has the name other alone.
 const LED: [(&str, u8, &str, &str); 2] = [
     ("other", 1, "Data area and hash area overlap.\n", ""),
-    ("else", 0, "", "else: read write create\n"),
+    ("else", 0, "", "else: read write\n"),
 ];
 
 #[test]
@@ -62,7 +62,7 @@ fn opened_data_is_known_whatever_its_name_leads_to(rt: HostRuntime) -> Result<()
             output.status,
             output.msgs.as_slice(),
             all.as_str()
-                .strip_prefix(NULL_FILES)
+                .strip_prefix(PLACEHOLDERS)
                 .unwrap_or("")
                 .strip_prefix("data: read\n"),
             disk.bytes_of("other")? == [5; 8192].to_vec(alloc)?,

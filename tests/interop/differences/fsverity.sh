@@ -28,6 +28,24 @@ for file in /proc/version /proc/self/status; do
     ours 1 '' "fsverity: cannot open $file." "$fsverity" digest "$file"
 done
 
+row 'a file that, its last block filled, has more than 9223372036854775807 bytes'
+# reads COMMAND..: a command begins to read the file, which nobody waits for.
+reads() {
+    if stopped_in "$far" "$@"; then pass; else fail "$row: $*" 'it reads nothing'; fi
+    { kill -KILL "$pid"; wait "$pid"; } 2>/dev/null
+}
+{ far=$(mktemp -p /dev/shm far.XXXXXX) && truncate -s 9223372036854771713 "$far"; } 2>/dev/null
+if [ -s "$far" ]; then
+    reads fsverity digest "$far"
+    ours 1 '' "fsverity: file is too large: $far." "$fsverity" digest "$far"
+    reads "$fsverity" digest --block-size 512 "$far"
+    truncate -s 9223372036854771712 "$far"
+    reads "$fsverity" digest "$far"
+else
+    echo 'left out: a file of more than 9223372036854771712 bytes: none can be made in /dev/shm'
+fi
+rm -f "$far"
+
 row 'block sizes above 524288'
 theirs 0 any '' fsverity digest --block-size 1048576 "$input"
 refused "$fsverity" digest --block-size 1048576 "$input"
@@ -120,6 +138,14 @@ done
 row 'an output file that can'\''t be opened'
 theirs 2 '' any fsverity digest --out-descriptor "$scratch/none/file" "$input"
 ours 1 '' "fsverity: cannot open $scratch/none/file." "$fsverity" digest --out-descriptor "$scratch/none/file" "$input"
+
+row 'an output file that is there, where the kernel refuses O_CREAT, as for files of others in a sticky folder'
+uncreating=(python3 tests/lib/without_creating.py)
+cp "$input" "$scratch/there"
+theirs 2 '' any "${uncreating[@]}" fsverity digest --out-descriptor "$scratch/there" "$input"
+ours 0 any '' "${uncreating[@]}" "$fsverity" digest --out-descriptor "$scratch/there" "$input"
+fsverity digest --out-descriptor "$scratch/part" "$input" >/dev/null
+same_bytes "$row: here" "$scratch/part" "$scratch/there"
 
 row 'a folder as the second output file'
 theirs 2 '' any fsverity digest --out-merkle-tree "$scratch/first_made" --out-descriptor "$scratch/folder" "$input"

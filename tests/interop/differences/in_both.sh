@@ -43,6 +43,11 @@ both 0 any veritysetup format "${fixed[@]}" "$scratch/longer" HASH
 same_bytes "$row: Debian's" "$scratch/whole" "$their_hash"
 same_bytes "$row: here" "$scratch/whole" "$hash"
 
+row 'the top hash block as an image of one block, where data and hash blocks have one size'
+tail -c 4096 "$scratch/whole" >"$scratch/top"
+both 0 any veritysetup format "${fixed[@]}" "$scratch/top" HASH
+both 0 '' veritysetup verify "$scratch/top" HASH "$root"
+
 row 'bytes of HASH outside superblock and tree'
 sample 20000 >"$hash"
 sample 20000 >"$their_hash"

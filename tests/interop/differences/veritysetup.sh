@@ -167,6 +167,42 @@ for file in /proc/version /proc/self/status; do
 done
 rm "$hash" "$their_hash"
 
+row '`format`: DATA that becomes shorter while it is read'
+for program in veritysetup "$veritysetup"; do
+    rm -f "$hash"
+    truncate -s 512M "$scratch/large"
+    stopped_in "$scratch/large" "$program" format "$scratch/large" "$hash"
+    last=$((at / 4096 + 3))
+    truncate -s $((last * 4096 + 5)) "$scratch/large"
+    kill -CONT "$pid"
+    if [ "$program" = veritysetup ]; then
+        ended "$row: Debian's" 1 '' 'Input/output error while creating hash area.'
+    else
+        ended "$row: here" 4 '' "Data ends before the end of block $last."
+    fi
+    if [ -e "$hash" ]; then pass; else fail "$row: $program" 'HASH has not been made'; fi
+done
+rm -f "$hash" "$scratch/large"
+
+row 'a data block, a hash block or a superblock that can'\''t be read'
+# A file that says that it is as long as a page, and that can't be read.
+unreadable=/sys/class/net/lo/speed
+if [ -e "$unreadable" ] && ! cat "$unreadable" >/dev/null 2>&1; then
+    theirs 1 '' 'Input/output error while creating hash area.' veritysetup format "$unreadable" "$their_hash"
+    ours 4 '' 'Cannot read data block 0.' "$veritysetup" format "$unreadable" "$hash"
+    both_format
+    theirs 1 '' 'Verification of data area failed.' veritysetup verify "$unreadable" "$hash" "$root"
+    ours 4 '' 'Cannot read data block 0.' "$veritysetup" verify "$unreadable" "$hash" "$root"
+    theirs 1 '' any veritysetup dump "$unreadable"
+    ours 4 '' 'Cannot read superblock.' "$veritysetup" dump "$unreadable"
+    words=(--no-superblock --salt=ab "$data" "$unreadable" "$root")
+    theirs 1 '' 'Verification of data area failed.' veritysetup verify "${words[@]}"
+    ours 4 '' 'Cannot read hash block 0 of level 0.' "$veritysetup" verify "${words[@]}"
+else
+    echo "left out: what can't be read: $unreadable is not there, or can be read"
+fi
+rm -f "$hash" "$their_hash"
+
 row '`verify`: changed data or a changed digest'
 # Two levels, of 1 and 9 hash blocks. Byte 544 begins the second digest of level 1, that of the hash block at byte 1536.
 both_format --data-block-size 512 --hash-block-size 512

@@ -93,18 +93,37 @@ pub fn open_measured<'a, R: Files>(rt: &R, path: &'a str) -> io::Result<Measured
 pub fn open_writable<'a, R: Files>(rt: &R, path: &'a str) -> io::Result<OpenedFile<'a, R::File>>
     ensures { IfOk result (λ opened. opened.path ≡ path.entry) }
 {
-    let file = writable_options().open(rt, path)?;
+    let file = open_or_create(rt, writable_options(), path)?;
     Ok(OpenedFile { file, path })
 }
 
-/// The options for reading and writing a file that is created if it is missing. A new one has the permissions that the
-/// system gives by itself (open(2), umask(2)).
+/// The options for reading and writing a file.
 fn writable_options() -> OpenOptions
-    ensures { result ≡ with_create (with_write (with_read new_options true) true) true }
+    ensures { result ≡ with_write (with_read new_options true) true }
 {
     let mut options = OpenOptions::new();
-    options.read(true).write(true).create(true);
+    options.read(true).write(true);
     options
+}
+
+/// A file opened by these options. It is created if it is missing. Only then is the system asked to create it, since it
+/// may refuse that for somebody else's file in a folder such as `/tmp` (proc_sys_fs(5), "protected_regular").
+pub fn open_or_create<R: Files>(rt: &R, options: OpenOptions, path: &str) -> io::Result<R::File> {
+    let mut options = options;
+    match options.open(rt, path) {
+        Err(error) if error.kind() == ErrorKind::NotFound => {
+            ask_to_create(&mut options);
+            options.open(rt, path)
+        }
+        opened => opened,
+    }
+}
+
+/// Has a file created if it is missing, with the permissions that the system gives by itself (open(2), umask(2)).
+fn ask_to_create(options: &mut OpenOptions)
+    ensures { options.new ≡ with_create options.old true }
+{
+    options.create(true);
 }
 
 /// Whether the system says that a path leads to a folder.

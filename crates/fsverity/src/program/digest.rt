@@ -13,7 +13,7 @@ use crate::program::printed_files::{PrintedFiles, print_files};
 use crate::runs::run_fault::RunFault;
 use crate::{FileOpener, Form, Line};
 use command_line::{
-    Identities, NULL_DEVICE, NullFiles, ProgressRuntime, ShownProgress, WordsFault, texts_of,
+    Identities, NULL_DEVICE, Placeholders, ProgressRuntime, ShownProgress, WordsFault, texts_of,
 };
 use std::io::Write;
 use verity_tree::TreeSettings;
@@ -34,8 +34,8 @@ pub(crate) fn digest_files_of_line<'a, R: Identities + ProgressRuntime + AllocGl
     let Ok(names) = texts_of(rt.alloc(), line.files.as_slice()) else {
         return Err(Fault::Words(WordsFault::Memory));
     };
-    let null_files = NullFiles::open(rt);
-    if !null_files.are_open() {
+    let placeholders = Placeholders::open(rt);
+    if !placeholders.are_open() {
         return Err(Fault::File(RunFault::Unopened, NULL_DEVICE));
     }
     digest_names(rt, progress, settings, line, names.as_slice(), out)

@@ -4,12 +4,12 @@ pub(crate) mod written_files;
 
 ghost use Rattle.std.specs.Prelude.{◌≡◌, ◌⊎◌, ◌||◌, None, Some, IfErr, IfOk, IfSome, OnOk, is_some};
 ghost use Rattle.std.specs.Prelude.{option_map, option_copied, string_bytes, true};
-ghost use Rattle.std.specs.Fs.{new_options, with_create, with_truncate, with_write};
+ghost use Rattle.std.specs.Fs.{new_options, with_truncate, with_write};
 ghost use Rattle.verity_io.specs.Moving.{file_of};
 ghost use Rattle.fsverity.specs.OutputFiles.{FoundBySystem, IsAnswer, names_of};
 
 use crate::Line;
-use command_line::{FileIdentity, Identities, are_same_file, is_folder, text_of};
+use command_line::{FileIdentity, Identities, are_same_file, is_folder, open_or_create, text_of};
 use std::fs::OpenOptions;
 use std::io::{Read, Seek, Write};
 use std::rt::Files;
@@ -200,19 +200,18 @@ fn open_output<'a, R: Files>(
 {
     match name {
         None => Ok(None),
-        Some(name) => match output_options().open(rt, name) {
+        Some(name) => match open_or_create(rt, output_options(), name) {
             Ok(file) => Ok(Some(OutputFile { name, file })),
             Err(_) => Err(name),
         },
     }
 }
 
-/// The options for writing a file that is created if it is missing, or else truncated. A new one has the permissions
-/// that the system gives by itself (open(2), umask(2)).
+/// The options for writing a file that is truncated.
 fn output_options() -> OpenOptions
-    ensures { result ≡ with_truncate (with_create (with_write new_options true) true) true }
+    ensures { result ≡ with_truncate (with_write new_options true) true }
 {
     let mut options = OpenOptions::new();
-    options.write(true).create(true).truncate(true);
+    options.write(true).truncate(true);
     options
 }

@@ -49,7 +49,8 @@ without_root s = record {
 }
 
 -- options of format, given to verify: with this number of data blocks, the salt that the report prints, and the text of
--- a root hash. Verify reads them without a superblock, and doesn't ask whether data and hash area are in one file
+-- a root hash, and without a UUID, which verify doesn't take. Verify reads them without a superblock, and doesn't ask
+-- whether data and hash area are in one file
 abbrev pub verify_options : OptionTexts → Option (List ℕ) → List ℕ → List ℕ → OptionTexts
 verify_options texts blocks salt root = record {
   hash = texts.hash;
@@ -58,7 +59,7 @@ verify_options texts blocks salt root = record {
   hash_block_size = texts.hash_block_size;
   data_blocks = blocks;
   salt = Some (salt_text salt);
-  uuid = texts.uuid;
+  uuid = None;
   hash_offset = texts.hash_offset;
   root = Some root;
   no_superblock = texts.no_superblock;

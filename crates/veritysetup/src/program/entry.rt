@@ -16,7 +16,7 @@ use crate::words::reading::read_words;
 use crate::words::usage::usage_of;
 use crate::{CommandName, Line};
 use command_line::{
-    Identities, NULL_DEVICE, NullFiles, ProgressRuntime, ShownProgress, WordsFault, given_words,
+    Identities, NULL_DEVICE, Placeholders, ProgressRuntime, ShownProgress, WordsFault, given_words,
     texts_of,
 };
 use rand::rngs::StdRng;
@@ -74,8 +74,8 @@ fn read_line<R: Env + AllocGlobal>(rt: &R) -> Result<Line, Fault<'static>> {
     }
 }
 
-/// Carries out the command of a line. Before that, the null device is opened once for each standard stream: a stream
-/// may be closed, and no file of the command is to get its number.
+/// Carries out the command of a line. Before that, a placeholder is opened for each standard stream: a stream may be
+/// closed, and no file of the command is to get its number.
 fn run_line<'a, R, O>(
     rt: &R,
     progress: &ShownProgress<'_, R>,
@@ -89,8 +89,8 @@ where
         (IsDrawnFrom (λ seed. ⟦<StdRng as Rng>⟧.stream (⟦<StdRng as SeedableRng>⟧.of_seed seed))) line.now) }
     ensures grows { Grows (O.contents out.old) (O.contents out.new) }
 {
-    let null_files = NullFiles::open(rt);
-    if !null_files.are_open() {
+    let placeholders = Placeholders::open(rt);
+    if !placeholders.are_open() {
         return Err(Fault::Unopened(NULL_DEVICE));
     }
     match (line.command, line.files.as_slice()) {
