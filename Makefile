@@ -79,9 +79,9 @@ check: programs libraries
 gate:
 	tests/all.sh --gate-alone
 
-# The wrong bodies alone, of all crates or of one. With ANEW=yes also those that an earlier run has seen to pass.
+# The wrong bodies without a verdict that holds, of all crates or of one; their verdicts are written. ANEW=yes tries all.
 wrong-bodies:
-	tests/wrong_bodies.sh $(if $(ANEW),--anew) $(CRATE)
+	tests/wrong_bodies/wrong_bodies.py $(if $(ANEW),--anew) $(CRATE)
 
 # Runs the programs as a user would. Needs no other tool.
 check-programs: programs

@@ -1,9 +1,7 @@
 #!/usr/bin/env bash
 # The gate, `rt ci`. To `rt` wrong bodies that don't fit the code, or don't compile, are no failure, though nothing is
 # tried then. Here they are one, for each crate that has such. Behind what rt says of a crate stands how many of them it
-# has come to. If GATE_LOG names a file, all that rt prints goes there too, as it comes and unchanged, and when rt has
-# ended, a last line 'gate: ended with status N': tests/wrong_bodies.sh follows that file. GATE_LOG.process has the number
-# of this process, so that its death is noticed.
+# has come to.
 set -u
 cd "$(dirname "$0")/.."
 log=$(mktemp)
@@ -33,10 +31,8 @@ numbers() {
     done
 }
 
-if [ -n "${GATE_LOG:-}" ]; then echo $$ >"$GATE_LOG.process"; fi
-rt ci 2>&1 | tee "$log" ${GATE_LOG:+"$GATE_LOG"} | numbers
+rt ci 2>&1 | tee "$log" | numbers
 status=${PIPESTATUS[0]}
-if [ -n "${GATE_LOG:-}" ]; then echo "gate: ended with status $status" >>"$GATE_LOG"; fi
 untried=$(grep -c ': BAD EDIT: ' "$log")
 if [[ $(tail -n 1 "$log") =~ ^([0-9]+)\ passed,\ ([0-9]+)\ failed$ ]]; then
     echo "${BASH_REMATCH[1]} passed, $((BASH_REMATCH[2] + untried)) failed"

@@ -1,6 +1,7 @@
 #!/usr/bin/env bash
-# Each wrong body is refused, for a contract that it doesn't meet (tests/wrong_bodies/wrong_bodies.py). First it is seen
-# that a body which shows nothing counts as failed, unless words are given.
+# Each wrong body is refused, for a contract that it doesn't meet (tests/wrong_bodies/wrong_bodies.py): here those without
+# a verdict that holds, and a sample of the others. First it is seen, over a small repository, that a body which shows
+# nothing counts as failed, and a verdict that rests on something else as none. With words only the bodies are tried.
 set -u
 cd "$(dirname "$0")/.."
 . tests/lib/checks.sh
@@ -8,97 +9,115 @@ needs rt 'none: the Rattle toolchain'
 needs python3 python3
 if [ $# -gt 0 ]; then exec tests/wrong_bodies/wrong_bodies.py "$@"; fi
 . tests/wrong_bodies/small.sh
-
-# try WORD..: tries the bodies of the small repository.
-try() { (cd "$small" && XDG_CACHE_HOME=$scratch/kept tests/wrong_bodies/wrong_bodies.py "$@" 2>&1); }
-
-# count_is NUMBER: the number of its bodies.
-count_is() { sed -i "s/^small .*/small $1/" "$small/tests/wrong_bodies/counts"; }
-
-gate_log=${GATE_LOG:-}
-unset GATE_LOG
 small=$scratch/small
+verdicts=$small/tests/wrong_bodies/verdicts/small
+gate=${GATE:-}
+
+# prove: proves the crates of the small repository as they are now, as a gate would.
+prove() {
+    rm -rf "$scratch/gate"
+    cp -r "$small" "$scratch/gate"
+    rm -rf "$scratch/gate/crates/small/must-fail"
+    (cd "$scratch/gate" && rt ci) >"$scratch/gate.log" 2>&1
+    export GATE=$scratch/gate
+}
+
+# try WORD..: tries the bodies of the small repository. What is said goes to a file.
+try() { "$small/tests/wrong_bodies/wrong_bodies.py" "$@" >"$scratch/said" 2>&1; }
+
+# says TIMES LINE WHAT: so often what was said has a line that begins so.
+says() { same "$3" "$1" "$(awk -v line="$2" 'index($0, line) == 1' "$scratch/said" | wc -l)"; }
+
+# last PASSED FAILED WHAT: the counts of the last line.
+last() { same "$3" "$1 passed, $2 failed" "$(tail -n 1 "$scratch/said")"; }
+
+# edit FILE OLD NEW: changes a line of the small repository. There has to be such a line.
+edit() {
+    if grep -q -- "$2" "$small/$1"; then pass; else fail "$1" "no line has $2"; fi
+    sed -i "s/$2/$3/" "$small/$1"
+}
+
 small_repository "$small"
-small_lines >"$scratch/expected"
-try >"$scratch/said"
-same 'bodies that show nothing count as failed: status' 1 $?
-while IFS= read -r line; do
-    same "bodies that show nothing: a line '$line'" 1 "$(grep -cF -- "$line" "$scratch/said")"
-done <"$scratch/expected"
-# Each right twin that is proved passes too, without a line, and so does each body for tests that the prover proves, and
-# the number of bodies.
-same 'bodies that show nothing: lines' "$(wc -l <"$scratch/expected")" "$(grep -cE '^(refused|caught|FAILED) ' "$scratch/said")"
-failures=$(grep -c '^FAILED ' "$scratch/expected")
-passes=$(($(grep -cv '^FAILED ' "$scratch/expected") + 13))
-same 'bodies that show nothing: counts' "$passes passed, $failures failed" "$(tail -n 1 "$scratch/said")"
-if [ "$failed" -gt 0 ]; then cat "$scratch/said"; fi
 if said=$(tests/wrong_bodies/lines.py); then pass; else fail 'what is read off lines' "$said"; fi
+if said=$(tests/wrong_bodies/sums.py "$small"); then pass; else fail 'which verdicts become void' "$said"; fi
+prove
+small_lines >"$scratch/expected"
+try
+same 'bodies that show nothing count as failed: status' 1 $?
+while IFS= read -r line; do says 1 "$line" "bodies that show nothing: '$line'"; done <"$scratch/expected"
+same 'bodies that show nothing: no other lines' "$(wc -l <"$scratch/expected")" \
+    "$(grep -cE '^(refused|caught|FAILED) ' "$scratch/said")"
+if [ "$failed" -gt 0 ]; then cat "$scratch/said"; fi
 
-# What passed is kept, until what it rests on is another.
-try --only adds_ >"$scratch/again"
-same 'what passed is kept' '4 passed, 0 failed' "$(tail -n 1 "$scratch/again")"
-same 'what passed is kept: lines' "$(grep '^refused small adds_' "$scratch/said" | sort)" \
-    "$(grep '^refused small adds_' "$scratch/again" | sed 's/, before$//' | sort)"
-same 'what passed is kept, but not what the gate tries' '2 of these are kept from earlier runs' "$(grep ' are kept ' "$scratch/again")"
+# What passed is kept: nothing of it is tried again, unless it is drawn; and then it comes to the same. From here on there
+# are a few of its bodies.
+few='adds_two|adds_none|one_too_many|constant_of_two|zero_is_at_most_each|means_the_same'
+few_bodies() {
+    small_bodies | awk -v few="^# ($few)\n" 'BEGIN { RS = ""; ORS = "\n\n" } NR == 1 || $0 "\n" ~ few' >"$bodies"
+    cp "$scratch/verdicts" "$verdicts"
+}
+bodies=$small/crates/small/wrong-bodies/lib.edit
+grep -E "^($few) " "$verdicts" >"$scratch/verdicts"
+few_bodies
+try --only one_too_many --sample 0
+last 2 0 'what passed is not tried again'
+try --only adds_ --sample 40 --seed 7
+says 1 '2 of these are tried again, drawn with the seed 7' 'a sample of what passed'
+says 1 'refused small adds_none: next: returns' 'a body of the sample'
+last 3 0 'a sample of what passed: counts'
 
-# Of a crate below only what it shows counts, and not the body of a function; but a test runs that body.
-same 'what a crate shows' 'specs/Answers.antt proofs/Lemmas.antt fn three() -> u8 {} trait Few { fn few() -> u8 { 3 } }' \
-    "$(cd tests/wrong_bodies && python3 -B - <<'END'
-from kept import shown_of
+# Verdicts that nobody has judged: copied from another body, with a forged sum, of a body that was edited since, and of
+# one whose right twin doesn't compile any more. None holds. One that is forged by the tool itself holds until it is drawn.
+sed -n 's/^adds_none /means_the_same /p' "$scratch/verdicts" >>"$verdicts"
+echo 'zero_is_at_most_each 0123456789abcdef0123 refused smaller: returns' >>"$verdicts"
+cp "$verdicts" "$scratch/forged"
+edit crates/small/wrong-bodies/lib.edit 'old: STEP: u16 = 1' 'old: STEP: u16'
+edit crates/small/wrong-bodies/lib.edit 'new: STEP: u16 = 2' 'new: STEP : u16'
+edit crates/small/wrong-bodies/lib.edit 'few() + (0, 1).0' 'few() + (0u16, 1).0'
+try --sample 0
+says 1 'FAILED small means_the_same: minimum is still proved' 'a verdict copied from another body'
+says 1 'FAILED small zero_is_at_most_each: smaller is still proved' 'a verdict with a forged sum'
+says 1 'FAILED small constant_of_two: step is still proved' 'a body edited without its line'
+says 1 "FAILED small one_too_many, right twin: it isn't proved: it doesn't compile" "a twin that doesn't compile"
+same 'a sample writes no verdicts' '' "$(diff "$scratch/forged" "$verdicts")"
+few_bodies
+(cd "$small/tests/wrong_bodies" && python3 -B -c '
+import sums, sys
+body = "means_the_same"
+print(body, sums.sums_of("../..", sys.argv[1] + "\n", "refused minimum: returns")[body], "refused minimum: returns")
+' "$(rt version)") >>"$verdicts"
+try --only means_the_same --sample 0
+last 1 0 'a verdict that the tool was made to sum'
+try --only means_the_same --sample 1
+says 1 'FAILED small means_the_same: minimum is still proved' 'a verdict that the tool was made to sum, and that is drawn'
 
-FILES = ["specs/Answers.antt", "proofs/Lemmas.antt", "proofs/few/Answers.antt", "proofs/a/few/Invariants.antt"]
-SOURCE = "fn three() -> u8 { 3 } trait Few { fn few() -> u8 { 3 } }"
-print(*(it for it in FILES if shown_of(it, "") is not None), shown_of("src/lib.rt", SOURCE))
-END
-)"
-sed -i 's/^    3$/    1 + 2/' "$small/crates/few/src/lib.rt"
-try --only adds_none >"$scratch/again"
-same 'over another body in a crate below: kept' '2 of these are kept from earlier runs' "$(grep ' are kept ' "$scratch/again")"
-try --only zero_of_the_tests >"$scratch/again"
-same 'over another body in a crate below: tests' '1 of these are kept from earlier runs' "$(grep ' are kept ' "$scratch/again")"
-same 'over another body in a crate below: caught again' '3 passed, 0 failed' "$(tail -n 1 "$scratch/again")"
-sed -i 's/ensures { result/ensures three { result/' "$small/crates/few/src/lib.rt"
-try --only adds_none >"$scratch/again"
-same 'over another contract in a crate below' '3 passed, 0 failed' "$(tail -n 1 "$scratch/again")"
-same 'and nothing of it is kept' 0 "$(grep -c ', before$' "$scratch/again")"
+# A kept line for a body that is gone is a failure, until it says why that is.
+few_bodies
+sed -i 's/^adds_two /adds_three /' "$verdicts"
+try --only adds_none --sample 0
+says 1 'FAILED small: ' 'a verdict on a body that is gone'
+sed -i 's/^adds_three .*/gone adds_three: it meant the same as adds_two/' "$verdicts"
+try --only adds_none --sample 0
+last 2 0 'a body that is gone for a reason'
+echo 'gone adds_none: it is there' >>"$verdicts"
+try --only adds_none --sample 0
+says 1 'FAILED small: ' 'a body that is there, and said to be gone'
+try --only no_such_word
+says 1 'FAILED no_such_word: ' 'a word that no body has'
 
-# Of its own crate all counts, also what is in a folder of sources that is named as one of what is built.
-for file in src/lib.rt src/out/mod.rt; do
-    sed -i '1s/$/ They are few./' "$small/crates/small/$file"
-    try --only adds_none >"$scratch/again"
-    same "what rests on another text in $file is tried" '3 passed, 0 failed' "$(tail -n 1 "$scratch/again")"
-    same "and nothing of it is kept: $file" 0 "$(grep -c ', before$' "$scratch/again")"
-done
+# A contract that is weakened in a crate below makes void what rests on it, and that alone.
+few_bodies
+edit crates/few/src/lib.rt 'result ≡ 3' 'result ≤ 3'
+prove
+try --only _ --sample 0
+says 1 "FAILED small one_too_many, right twin: it isn't proved: as_many: " 'a contract weakened in a crate below'
+says 0 'refused small adds_none: ' 'what does not rest on it is not tried'
+GATE=$scratch try --only one_too_many
+says 2 'FAILED small one_too_many' 'a crate below that is not proved'
 
-# The number of bodies has to be the one that is written down, or a line says why one is gone.
-count=$(sed 's/^small //' "$small/tests/wrong_bodies/counts")
-counts="small: $count bodies and 0 that are gone, where tests/wrong_bodies/counts counts"
-for number in $((count + 1)) $((count - 1)); do
-    count_is "$number"
-    try --only adds_none >"$scratch/again"
-    same "$count bodies, where $number are counted: status" 1 $?
-    same "$count bodies, where $number are counted" 1 "$(grep -cF "FAILED $counts $number: " "$scratch/again")"
-done
-count_is $((count + 1))
-echo 'gone small adds_three: it meant the same as adds_two' >>"$small/tests/wrong_bodies/counts"
-try --only adds_none >"$scratch/again"
-same 'a body that is gone for a reason' '3 passed, 0 failed' "$(tail -n 1 "$scratch/again")"
-
-# A crate that isn't proved as it stands has failed, and so it has if the gate dies that would prove it.
-: >"$scratch/gate.log"
-echo 4194305 >"$scratch/gate.log.process"
-GATE_LOG=$scratch/gate.log try --anew --only adds_none >"$scratch/again"
-same 'a gate that has died' 1 "$(grep -c "^FAILED small: it isn't proved as it stands$" "$scratch/again")"
-sed -i 's/^    number$/    number.saturating_sub(1)/' "$small/crates/small/src/out/mod.rt"
-try --only adds_none >"$scratch/again"
-same 'a crate that is not proved' 1 "$(grep -c "^FAILED small: it isn't proved as it stands$" "$scratch/again")"
-mv "$small/crates/small/wrong-bodies" "$scratch/wrong-bodies"
-try --only adds_none >"$scratch/again"
-same 'an emptied folder' 1 "$(grep -c '^FAILED small: 4 bodies and 1 that are gone, ' "$scratch/again")"
-same 'a word that no body has' 1 "$(grep -c '^FAILED adds_none: no body has this word in its name$' "$scratch/again")"
-
-if [ -n "$gate_log" ]; then export GATE_LOG=$gate_log; fi
-tests/wrong_bodies/wrong_bodies.py | tee "$scratch/said"
+export GATE=$gate
+if [ -z "$gate" ]; then unset GATE; fi
+tests/wrong_bodies/wrong_bodies.py --sample "${SAMPLE:-40}" ${SEED:+--seed "$SEED"} | tee "$scratch/said"
 status=${PIPESTATUS[0]}
 last=$(tail -n 1 "$scratch/said")
 if [[ $last =~ ^([0-9]+)\ passed,\ ([0-9]+)\ failed$ ]] && [ $((status == 0)) = $((BASH_REMATCH[2] == 0)) ]; then

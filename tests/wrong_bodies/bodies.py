@@ -5,6 +5,8 @@ import re
 import sys
 from collections import namedtuple
 
+from shapes import differing
+
 # One change of a body: the file, what stands there, what the body has in its place, and what its right twin has. Each is
 # a piece of one line.
 Pair = namedtuple("Pair", "file old new right")
@@ -25,10 +27,8 @@ CONTRACT = re.compile(r"\b(?:ghost|ensures|requires|invariant|follows|tactic)\b"
 class Body:
     """A wrong body: what it changes, and what has to refuse it."""
 
-    def __init__(self, crate, name, source, is_single):
+    def __init__(self, crate, name, source):
         self.crate, self.name, self.source = crate, name, source
-        # Whether it stands alone in a file of must-fail/, so that `rt ci` tries it.
-        self.is_single = is_single
         # The functions that have to refuse it, if it names them; the test that has to fail, and the type that keeps it
         # from being compiled, if that is so.
         self.pairs, self.refusers, self.test, self.type_name = [], [], None, None
@@ -54,7 +54,7 @@ class Body:
 
     def said(self):
         """All that the body says, for a checksum."""
-        return [self.label(), self.is_single, self.pairs, self.refusers, self.test, self.type_name]
+        return [self.label(), self.pairs, self.refusers, self.test, self.type_name]
 
 
 class Change:
@@ -146,7 +146,7 @@ def read(path, top, crate, is_single):
         elif key == "old:":
             old = text
         elif re.fullmatch(r"# \w+", line):
-            found.append(Body(crate, line[2:], source, is_single))
+            found.append(Body(crate, line[2:], source))
     if is_single and [it.name for it in found] != [os.path.basename(path)[: -len(".edit")]]:
         sys.exit(f"{os.path.relpath(path, top)}: a file of must-fail/ has one body, which has its name")
     return found
@@ -173,3 +173,36 @@ def takes(body, key, text=""):
     else:
         return False
     return True
+
+
+def changes_of(crate, body):
+    """The changes that a body makes: its own, and its right twin's, or for a test a second one for the prover. If
+    something is wrong with it, none, with what that is."""
+    why, changes = differing(body), []
+    for role in ("body", *(["twin"] if body.has_twin() else []), *(["proof"] if body.test else [])):
+        texts, unfit = body.texts(crate.texts, role == "twin")
+        change = Change(body, role, texts)
+        if not unfit:
+            change.place(crate)
+            unfit = fault_of_place(change, crate.names)
+        why = why or (unfit and f"it doesn't fit: {unfit}")
+        changes.append(change)
+    return ([], f"{body.source}: {why}") if why else (changes, None)
+
+
+def fault_of_place(change, names):
+    """What is wrong with the place that a change is put in; nothing if that is right. `names` has those of the crate's
+    functions."""
+    body = change.body
+    unknown = next((it for it in body.refusers if it not in names), None)
+    if unknown:
+        return f"there is no function {unknown}"
+    if change.beyond:
+        return change.beyond
+    if body.test and body.type_name:
+        return "it is said not to compile, and to fail a test"
+    if not change.functions:
+        return "it changes no function, and names none that has to refuse it"
+    if len(change.changed) > 1 and not body.refusers and not body.test:
+        return f"it changes {', '.join(change.changed)}, and doesn't say which has to refuse it"
+    return None

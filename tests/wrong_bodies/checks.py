@@ -6,8 +6,8 @@ import shutil
 import tempfile
 
 import functions
-from crates import Crates, copy_crates, link
-from groups import functions_of, texts_of
+from crates import Crates, copy_crates, link, text_of
+from groups import functions_of, groups_of, same_function, texts_of
 from verdicts import LINE, Verdict, together, verdict_on
 
 
@@ -17,40 +17,61 @@ class Checks:
     def __init__(self, kit, libraries, room):
         self.kit, self.libraries, self.room = kit, libraries, room
 
-    def copy(self, crate, texts, seed):
-        """A copy of a crate with these texts, and with what the check of another copy kept."""
+    def check(self, crate, group, names, kept):
+        """Checks these functions of a copy of a crate with the changes of a group, over what another check kept: its
+        status, what it printed, and the folder of what it kept. The proof of each other function is an empty file, so that
+        no time goes into it; what stands on that function is checked against its contract all the same."""
         copy = tempfile.mkdtemp(prefix=f"{crate.name}-", dir=self.room)
         for part in ("src", "specs", "proofs"):
             if os.path.isdir(f"{crate.folder}/{part}"):
                 shutil.copytree(f"{crate.folder}/{part}", f"{copy}/{part}")
-        write(copy, texts)
-        if seed:
-            link(f"{seed}/kept", f"{copy}/kept")
+        write(copy, texts_of(group, crate.texts))
+        for name in crate.names - set(names):
+            at = f"{copy}/proofs/{name.replace('::', '/')}"
+            for file in ("Answers", "Invariants"):
+                if os.path.exists(f"{at}/{file}.antt"):
+                    os.remove(f"{at}/{file}.antt")
+            os.makedirs(at, exist_ok=True)
+            write(at, {"Proof.antt": ""})
+        if kept:
+            link(kept, f"{copy}/kept")
         os.makedirs(f"{copy}/kept", exist_ok=True)
-        return copy
-
-    def seed(self, crate, names, seed):
-        """A copy of a crate as it stands, with what a check of these functions kept; or what the check said."""
-        copy = self.copy(crate, {}, seed)
         status, said = crate.check(self.kit, self.libraries, copy, names)
-        return (copy, "") if status == 0 else (None, said)
-
-    def group(self, crate, seed, group):
-        """What the changes of a group come to. What doesn't compile is left out, and the others are checked again."""
-        copy = self.copy(crate, texts_of(group, crate.texts), seed)
-        _, said = crate.check(self.kit, self.libraries, copy, functions_of(group))
+        kept = f"{copy}.kept"
+        os.rename(f"{copy}/kept", kept)
         shutil.rmtree(copy)
+        return status, said, kept
+
+    def group(self, crate, kept, group):
+        """What the changes of a group come to, and the folder of what the check kept. What doesn't compile is left out, and
+        the others are checked again; so are right twins of one function that together aren't proved, each apart."""
+        _, said, to = self.check(crate, group, functions_of(group), kept)
         if LINE.search(said):
-            return {it: self.verdict(said, crate, it) for it in group}
-        found = {it: Verdict("nothing", f"it doesn't compile: {error[:200]}") for it, error in errors_in(said, group)}
-        left = [it for it in group if it not in found]
-        if not found and len(left) == 1:
-            return {left[0]: Verdict("nothing", f"its check ended early: {' '.join(said.split())[-200:]}")}
-        # If it isn't said which change ended the check, each half is tried.
-        halves = [left] if found else [left[: len(left) // 2], left[len(left) // 2:]]
-        for half in halves if left else []:
-            found.update(self.group(crate, seed, half))
-        return found
+            found = {it: self.verdict(said, crate, it) for it in group}
+            again = [it for it in group if it.has_to_prove() and found[it].kind != "proved"]
+            halves = groups_of(again, same_function)
+            halves = halves if len(halves) > 1 or any(self.shared(it, group) for it in again) else []
+        else:
+            errors = dict(errors_in(said, group))
+            found = {
+                it: Verdict("nothing", f"it doesn't compile: {error[:200]}")
+                for it, error in errors.items()
+                if not self.shared(it, group)
+            }
+            left = [it for it in group if it not in errors]
+            if not errors and len(left) == 1:
+                return {left[0]: Verdict("nothing", f"its check ended early: {' '.join(said.split())[-200:]}")}, to
+            # If it isn't said which change ended the check, each half is tried.
+            halves = [left] if errors else [left[: len(left) // 2], left[len(left) // 2:]]
+            halves += [[it] for it in errors if it not in found]
+        for half in (it for it in halves if it):
+            found.update(self.group(crate, to, half)[0])
+        return found, to
+
+    @staticmethod
+    def shared(change, group):
+        """Whether what a check says of a change could be due to another of its group."""
+        return any(it is not change and same_function(it, change) for it in group)
 
     @staticmethod
     def verdict(said, crate, change):
@@ -58,18 +79,22 @@ class Checks:
         wanted = "proved" if change.has_to_prove() else "refused"
         return together([verdict_on(said, crate, it) for it in change.functions], wanted)
 
-    def type_error(self, crate, seed, change):
-        """What a body comes to that must not compile."""
-        copy = self.copy(crate, texts_of([change], crate.texts), seed)
-        status, said = crate.check(self.kit, self.libraries, copy, [])
-        shutil.rmtree(copy)
-        errors, name = [error for _, error in errors_in(said, [change])], change.body.type_name
-        named = next((it for it in errors if re.search(rf"\b{re.escape(name)}\b", it.split(" ", 1)[1])), None)
-        if status == 0 or not errors:
-            return {change: Verdict("nothing", "it compiles, or its errors are at other lines")}
-        if not named:
-            return {change: Verdict("nothing", f"the error at its line doesn't name {name}: {errors[0][:200]}")}
-        return {change: Verdict("refused", named[:200], True)}
+    def types(self, crate, group):
+        """What bodies come to that must not compile. One without an error is tried by itself."""
+        status, said, _ = self.check(crate, group, [], None)
+        found = {}
+        for change in group:
+            errors, name = [error for _, error in errors_in(said, [change])], change.body.type_name
+            named = next((it for it in errors if re.search(rf"\b{re.escape(name)}\b", it.split(" ", 1)[1])), None)
+            if named:
+                found[change] = Verdict("refused", named.partition(": ")[2][:200], True)
+            elif len(group) > 1:
+                found.update(self.types(crate, [change]))
+            elif status == 0 or not errors:
+                found[change] = Verdict("nothing", "it compiles, or its errors are at other lines")
+            else:
+                found[change] = Verdict("nothing", f"the error at its line doesn't name {name}: {errors[0][:200]}")
+        return found
 
 
 def errors_in(said, changes):
@@ -98,9 +123,7 @@ class Tests:
         for at, _, files in os.walk(f"{crate}/src"):
             for file in files:
                 path = os.path.relpath(f"{at}/{file}", crate)
-                with open(f"{at}/{file}", encoding="utf-8") as old:
-                    text = functions.with_tests_alone(path, old.read(), wanted)
-                write(crate, {path: text})
+                write(crate, {path: functions.with_tests_alone(path, text_of(f"{at}/{file}"), wanted)})
         write(f"{copy}/crates", texts)
         said = Crates(copy).try_tests(self.kit, name)
         shutil.rmtree(copy)

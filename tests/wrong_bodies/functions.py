@@ -107,16 +107,6 @@ def functions_in(path, text, types):
     return found
 
 
-def without_bodies(path, text):
-    """The text of a source file without the bodies of its functions, but with the defaults of traits' methods."""
-    kept, at = [], 0
-    for it in sorted(functions_in(path, text, {})):
-        if it.body >= at and not it.is_default:
-            kept.append(text[at:it.body])
-            at = it.end - 1
-    return "".join(kept) + text[at:]
-
-
 def with_tests_alone(path, text, wanted):
     """The text of a source file without its tests, but for those of the wanted names."""
     for it in sorted(functions_in(path, text, {}), reverse=True):

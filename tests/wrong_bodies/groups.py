@@ -1,29 +1,29 @@
 """Which changes can be put into one copy of a crate together."""
 
 
-def groups_of(changes):
-    """Puts changes into as few groups as it takes, so that none has two of one function or of the same lines. A change on
-    which other functions can rest is a group of its own."""
-    groups = [[it] for it in changes if it.is_alone]
-    shared = []
-    for change in sorted((it for it in changes if not it.is_alone), key=lambda it: -conflicts(it, changes)):
-        group = next((it for it in shared if not any(exclude(change, other) for other in it)), None)
+def groups_of(changes, exclude):
+    """Puts changes into as few groups as it takes, so that none has two that exclude each other."""
+    groups = []
+    for change in sorted(changes, key=lambda it: -sum(exclude(it, other) for other in changes)):
+        group = next((it for it in groups if not any(exclude(change, other) for other in it)), None)
         if group is None:
             group = []
-            shared.append(group)
+            groups.append(group)
         group.append(change)
-    return shared + groups
+    return groups
 
 
-def conflicts(change, changes):
-    """How many functions of other changes a change has too."""
-    return sum(len(other.functions) for other in changes if set(change.functions) & set(other.functions))
+def same_line(one, other):
+    """Whether two changes replace the same line. Right twins exclude each other only then: if all together are proved,
+    each is."""
+    return any((a.file, a.number) == (b.file, b.number) for a in one.lines for b in other.lines)
 
 
-def exclude(one, other):
-    """Whether two changes can't be in one group."""
+def same_function(one, other):
+    """Whether what a check says of one change could be due to another: both concern a function, or a line, or others than
+    the changed functions can rest on one of them."""
     functions = {*one.functions, *one.changed} & {*other.functions, *other.changed}
-    return bool(functions) or any((a.file, a.number) == (b.file, b.number) for a in one.lines for b in other.lines)
+    return bool(functions) or same_line(one, other) or one.is_alone or other.is_alone
 
 
 def functions_of(changes):

@@ -1,96 +1,72 @@
-"""What passed in earlier runs, under a checksum of all that it rests on."""
+"""The verdicts that are kept in the repository, each with a sum of all that it was judged by."""
 
-import glob
 import hashlib
 import json
 import os
 import re
-import tempfile
-import time
+import sys
 
-from functions import without_bodies
-from verdicts import Verdict
+from crates import text_of
+from reach import Reach
 
 HERE = os.path.dirname(os.path.abspath(__file__))
 
-# Each is kept in a file, until it hasn't been looked for in so many seconds.
-FOLDER = os.path.join(os.environ.get("XDG_CACHE_HOME") or os.path.expanduser("~/.cache"), "verity-wrong-bodies")
-KEPT_FOR = 14 * 24 * 3600
+# What judges: the files of this folder that a verdict rests on.
+JUDGES = ("bodies", "checks", "crates", "functions", "groups", "reach", "shapes", "verdicts")
+
+
+class Sums:
+    """The sums of verdicts over the crates as they stand."""
+
+    def __init__(self, crates, toolchain):
+        self.listed, self.reach = crates.listed, Reach(crates)
+        self.judged_by = [toolchain, *(text_of(f"{HERE}/{it}.py") for it in JUDGES)]
+
+    def of(self, body, changes, verdict):
+        """The sum of a verdict: of itself, of the body and what its changes rest on, of the toolchain and of this tool. So
+        it fits no other body and no other verdict."""
+        rests = [[it.role, it.functions, self.rests_on(it)] for it in changes]
+        return hashlib.sha256(json.dumps([verdict, body.said(), rests, self.judged_by]).encode()).hexdigest()[:20]
+
+    def rests_on(self, change):
+        """The texts that a change is judged by, its own crate's as they stand without it."""
+        crate, test = change.body.crate, change.body.test
+        if test and not change.has_to_prove():
+            tests = f"{test.crate}::{test.name}"
+            run = [it for it in [tests, *(f"{crate}::{it}" for it in change.changed)] if it in self.reach.functions]
+            return [self.listed[crate], self.listed.get(test.crate), self.reach.of_run(crate, run, change.lines)]
+        functions = sorted({*change.functions, *change.changed})
+        return [self.listed[crate], self.reach.of_check(crate, functions, change.lines)]
 
 
 class Kept:
-    """What passed in earlier runs."""
+    """The verdicts of a crate: lines `NAME SUM VERDICT`, and of each body that went a line `gone NAME: WHY`."""
 
-    def __init__(self, kit, crates):
-        self.crates = crates
-        self.sums = {name: sum_of_crate(crates.top, name) for name in crates.listed}
-        self.shown = {name: sum_of_crate(crates.top, name, shown_of) for name in crates.listed}
-        self.tools = [text_of(f"{kit}/KIT-ID"), *(text_of(it) for it in sorted(glob.glob(f"{HERE}/*.py")))]
-        for path in glob.glob(f"{FOLDER}/*"):
-            if os.path.getmtime(path) < time.time() - KEPT_FOR:
-                os.remove(path)
+    def __init__(self, folder, crate):
+        self.path, self.lines, self.gone = f"{folder}/{crate}", {}, {}
+        lines = text_of(self.path).split("\n") if os.path.exists(self.path) else []
+        for number, line in enumerate(lines, 1):
+            gone, kept = re.fullmatch(r"gone (\w+): (\S.*)", line), re.fullmatch(r"(\w+) ([0-9a-f]{20}) (\S.*)", line)
+            if gone and gone[1] not in self.gone:
+                self.gone[gone[1]] = gone[2]
+            elif kept and kept[1] not in self.lines:
+                self.lines[kept[1]] = kept.groups()[1:]
+            elif line:
+                sys.exit(f"{self.path}:{number}: this line is neither a verdict nor a body that is gone: {line}")
 
-    def path(self, change):
-        """The file of a change. A check rests on the crate of the body, and on what those below show. Where their code is
-        linked or run, all of them counts: below a program or a static library, and for a test, with the test's crate."""
-        body, crates = change.body, self.crates
-        whole, below = [body.crate], crates.below(body.crate)
-        if body.test and not change.has_to_prove():
-            whole += [body.test.crate] if body.test.crate in crates.listed else []
-            whole, below = crates.with_those_below(whole), []
-        elif crates.links(body.crate):
-            whole, below = whole + below, []
-        rests = [[it, crates.listed[it], self.sums[it]] for it in sorted(whole)]
-        rests += [[it, crates.listed[it], self.shown[it]] for it in sorted(below)]
-        return f"{FOLDER}/{checksum(self.tools, rests, body.said(), change.role, sorted(change.texts.items()))}"
+    def fault(self, names):
+        """What is wrong with the lines of a crate whose bodies have these names; nothing if they are right."""
+        lost = next((it for it in self.lines if it not in names), None)
+        if lost:
+            return f"{self.path} has a verdict on {lost}, which isn't there: put `gone {lost}: WHY` in its place"
+        back = next((it for it in self.gone if it in names), None)
+        return f"{back} is there, and {self.path} says that it is gone" if back else None
 
-    def find(self, change):
-        """What a change came to when it passed, or nothing."""
-        path = self.path(change)
-        if not os.path.exists(path):
-            return None
-        os.utime(path)
-        return Verdict(*json.loads(text_of(path)))
-
-    def keep(self, change, verdict):
-        """Keeps what a change came to, if there is a folder for it."""
-        try:
-            os.makedirs(FOLDER, exist_ok=True)
-            with tempfile.NamedTemporaryFile("w", dir=FOLDER, delete=False, encoding="utf-8") as file:
-                json.dump(verdict, file)
-            os.replace(file.name, self.path(change))
-        except OSError as error:
-            print(f"nothing is kept: {error}")
-
-
-def checksum(*parts):
-    return hashlib.sha256(json.dumps(parts).encode()).hexdigest()
-
-
-def sum_of_crate(top, name, part_of=lambda path, text: text):
-    """The checksum of a crate's files, without what was built of them and its wrong bodies. `part_of` gives the part of a
-    file's text that counts, or nothing."""
-    files, crate = [], f"{top}/crates/{name}"
-    for at, folders, names in os.walk(crate):
-        if at == crate:
-            folders[:] = set(folders) - {"out", "must-fail", "wrong-bodies"}
-        folders.sort()
-        for path in (os.path.relpath(f"{at}/{it}", crate) for it in sorted(names)):
-            part = part_of(path, text_of(f"{crate}/{path}"))
-            if part is not None:
-                files.append([path, part])
-    return checksum(name, files)
-
-
-def shown_of(path, text):
-    """What a file of a crate shows to those above: neither the bodies of functions nor the proofs that these meet their
-    contracts. What a check says of a function rests on the heads and contracts of those that it calls, and on definitions
-    and lemmas; no crate names the proof of another's function."""
-    if re.fullmatch(r"proofs/.+/(Answers|Invariants)\.antt", path):
-        return None
-    return without_bodies(path, text) if path.endswith(".rt") else text
-
-
-def text_of(path):
-    with open(path, encoding="utf-8", errors="surrogateescape", newline="") as file:
-        return file.read()
+    def write(self, names):
+        """Writes the lines, in the order of these names."""
+        os.makedirs(os.path.dirname(self.path), exist_ok=True)
+        lines = [" ".join([it, *self.lines[it]]) for it in names if it in self.lines]
+        lines += [f"gone {name}: {why}" for name, why in self.gone.items()]
+        with open(f"{self.path}.new", "w", encoding="utf-8") as file:
+            file.write("".join(f"{it}\n" for it in lines))
+        os.replace(f"{self.path}.new", self.path)

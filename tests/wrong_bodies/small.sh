@@ -4,14 +4,15 @@
 # small_repository FOLDER: makes it.
 small_repository() {
     local crate=$1/crates/small
-    mkdir -p "$1/tests/wrong_bodies" "$crate"/{src/out,proofs/two_more,must-fail,wrong-bodies} "$1"/crates/{few,small_tests}/src
+    mkdir -p "$1/tests/wrong_bodies" "$crate"/{src/out,proofs/{as_many,two_more},must-fail,wrong-bodies} \
+        "$1"/crates/{few/specs,few/src,small_tests/src}
     cp tests/wrong_bodies/*.py "$1/tests/wrong_bodies"
     cp HANDLES "$1"
     printf 'few:\nsmall: few\nsmall_tests: small\n' >"$1/crates.txt"
     cat >"$1/crates/few/src/lib.rt" <<'END'
 //! A number for the crate above.
 
-ghost use Rattle.std.specs.Prelude.{◌≡◌};
+ghost use Rattle.std.specs.Prelude.{◌≡◌, ◌≤◌};
 
 /// Three.
 pub fn few() -> u8
@@ -33,6 +34,31 @@ pub fn given(number: u8) -> u8
     number
 }
 END
+    cat >"$1/crates/few/specs/Few.antt" <<'END'
+use Rattle.std.specs.Prelude.{ℕ}
+
+-- how many few are
+unfoldable pub three : ℕ
+three = 3
+END
+    echo 'pub mod Few' >"$1/crates/few/specs/Lib.antt"
+    cat >"$crate/proofs/Threes.antt" <<'END'
+use Rattle.std.proofs.Common.{◌≡◌, refl}
+use Rattle.few.specs.Few.{three}
+
+pub three-is : three ≡ 3
+unfolding three
+three-is = refl
+END
+    echo 'pub mod Threes' >"$crate/proofs/Lib.antt"
+    cat >"$crate/proofs/as_many/Answers.antt" <<'END'
+use Rattle.std.proofs.Common.{arith}
+use Rattle.small.proofs.Threes.{three-is}
+use Rattle.small.proofs.as_many.Goals as goal
+
+pub returns : goal.returns
+returns c = omega (arith, c.few.ensures, three-is)
+END
     cat >"$crate/proofs/two_more/Answers.antt" <<'END'
 use Rattle.std.proofs.Common.{arith}
 use Rattle.small.proofs.two_more.Goals as goal
@@ -48,30 +74,6 @@ file: src/lib.rt
 old:     u16::from(number) + 1
 new:     u16::from(number) + 2
 END
-    cat >"$crate/must-fail/names_another_function.edit" <<'END'
-# names_another_function
-file: src/lib.rt
-old:     one_more(number) + 1
-new:     one_more(number) + 3
-# in: at_most
-END
-    cat >"$crate/must-fail/greater_by_two_with_its_twin.edit" <<'END'
-# greater_by_two_with_its_twin
-file: src/lib.rt
-old:     number + 1
-new:     number + (2 - 0)
-# right:     number + (2 - 1)
-END
-    cat >"$crate/must-fail/is_refused_in_a_second_function_too.edit" <<'END'
-# is_refused_in_a_second_function_too
-file: src/lib.rt
-old:     u16::from(number) + 1
-new:     u16::from(number) + 2
-old:     1 + u16::from(number)
-new:     2 + u16::from(number)
-# in: one_more
-END
-    echo "small $(cat "$crate"/{must-fail,wrong-bodies}/*.edit | grep -c '^# [a-z_]*$')" >"$1/tests/wrong_bodies/counts"
 }
 
 # small_code: the crate's functions.
@@ -82,6 +84,7 @@ small_code() {
 
 pub mod out;
 
+ghost use Rattle.few.specs.Few.{three};
 ghost use Rattle.std.specs.Prelude.{◌≡◌, ◌+◌, ◌-◌, ◌^◌, ◌<◌, ◌≤◌, MatchResult, min};
 
 /// How far it is to the next number.
@@ -140,7 +143,7 @@ pub fn same(number: u8) -> u16
 
 /// The number of the crate below.
 pub fn as_many() -> u8
-    ensures { result ≡ 3 }
+    ensures { result ≡ three }
 {
     few::few()
 }
@@ -285,6 +288,11 @@ old:     1 + u16::from(number)
 new:     1 + u16::from(number).saturating_sub(1)
 # right:     1 + u16::from(number).saturating_sub(0)
 
+# one_too_many
+old:     few::few()
+new:     few::few() + (0, 1).1
+# right:     few::few() + (0, 1).0
+
 # zero_of_the_tests
 old: { one } else
 new: { 0 } else
@@ -421,6 +429,11 @@ new: ghost use Rattle.core.specs
 old:     ensures { result ≡ number + 2 }
 new:     ensures { result ≡ number + 3 }
 
+# its_twin_does_not_compile
+old:     STEP + u16::from(number)
+new:     STEP + u16::from(number) + (1, 0).0
+# right:     STEP + u16::from(number) + (1, 0u8).1
+
 # least_in_place_of_the_least
 old: Least::number(Least::of(other, one))
 new: Least::number((Least::of(one, other), Least::of(other, one)).0)
@@ -440,12 +453,11 @@ small_lines() {
     cat <<'END'
 refused small adds_two: one_more: 
 refused small adds_none: next: returns
+refused small one_too_many: as_many: returns
 refused small constant_of_two: step: returns
-refused small greater_by_two_with_its_twin: greater: it is not proved that 
-refused small is_refused_in_a_second_function_too: one_more: returns
 refused small two_functions_and_the_right_one: same: returns
 refused small error_counted_twice_with_its_twin: count_error: returns-then-is_err-clause-count (open at a limit of the search)
-refused small number_in_place_of_the_least: src/lib.rt:33:
+refused small number_in_place_of_the_least: error
 refused small least_in_place_of_the_number_beside: Beside+Least::number_beside: returns
 caught small zero_of_the_tests: the_lesser_is_at_most_each of small_tests
 caught small refused_and_caught: the_lesser_is_at_most_each of small_tests
@@ -466,6 +478,7 @@ FAILED small means_the_same_beside_a_constant: step_to is still proved
 FAILED small greater_by_two: it is refused, but not for a clause of its contract, and has no right twin: greater: overflow_
 FAILED small greater_than_the_greatest: it is refused, but not for a clause of its contract, and has no right twin: greater_again: greater-requires
 FAILED small error_counted_twice: it is refused, but not for a clause of its contract, and has no right twin: count_error: returns-then-is_err-clause-count (open at a limit of the search)
+FAILED small its_twin_does_not_compile, right twin: it isn't proved: it doesn't compile
 FAILED small two_functions: crates/small/wrong-bodies/lib.edit:
 FAILED small two_functions_and_the_wrong_one: at_most is still proved
 FAILED small names_no_function: crates/small/wrong-bodies/lib.edit:
@@ -474,7 +487,6 @@ FAILED small words_of_the_contracts: crates/small/wrong-bodies/lib.edit:
 FAILED small contract_of_two_more: crates/small/wrong-bodies/lib.edit:
 FAILED small least_in_place_of_the_least: it compiles
 FAILED small number_in_place_of_another_type: the error at its line doesn't name Greatest
-FAILED small names_another_function: at_most is still proved
 refused small its_twin_is_wrong_too: same: returns
 END
 }

@@ -3,9 +3,15 @@
 import re
 from collections import namedtuple
 
-# What a body comes to: 'proved', 'refused' or 'nothing'; a text that says where and how, or why; and whether a clause of
-# the function's own contract is what refuses it.
-Verdict = namedtuple("Verdict", "kind text is_clause", defaults=("", False))
+
+class Verdict(namedtuple("Verdict", "kind text is_clause", defaults=("", False))):
+    """What a body comes to: 'proved', 'refused' or 'nothing'; a text that says where and how, or why; and whether a clause
+    of the function's own contract is what refuses it."""
+
+    @staticmethod
+    def how(body):
+        return "caught" if body.test else "refused"
+
 
 # A function's line in what a check prints, and lines that say why a goal of it isn't proved.
 LINE = re.compile(r"^fn (\S+): (.*)$", re.M)
@@ -110,3 +116,15 @@ def together(verdicts, wanted):
     if other:
         return other
     return Verdict(wanted, "; ".join(it.text for it in verdicts), all(it.is_clause for it in verdicts))
+
+
+def fault(change, verdict):
+    """Why what a change came to isn't right; nothing if it is. A body has to be refused, and a right twin proved."""
+    if change.has_to_prove():
+        why = "it isn't proved" if change.role == "twin" else "it isn't proved, so no test has to catch it"
+        return None if verdict.kind == "proved" else f"{why}: {verdict.text}"
+    if verdict.kind != "refused":
+        return verdict.text
+    if not (verdict.is_clause or change.body.has_twin()):
+        return f"it is refused, but not for a clause of its contract, and has no right twin: {verdict.text}"
+    return None
