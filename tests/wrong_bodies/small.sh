@@ -488,5 +488,6 @@ FAILED small contract_of_two_more: crates/small/wrong-bodies/lib.edit:
 FAILED small least_in_place_of_the_least: it compiles
 FAILED small number_in_place_of_another_type: the error at its line doesn't name Greatest
 refused small its_twin_is_wrong_too: same: returns
+refused small its_twin_does_not_compile: step_to: returns
 END
 }
