@@ -15,9 +15,7 @@ small_repository() {
 ghost use Rattle.std.specs.Prelude.{◌≡◌, ◌≤◌};
 
 /// Three.
-pub fn few() -> u8
-    ensures { result ≡ 3 }
-{
+pub fn few() -> u8 ensures { result ≡ 3 } {
     3
 }
 END
@@ -28,9 +26,7 @@ END
 ghost use Rattle.std.specs.Prelude.{◌≡◌};
 
 /// The same number.
-pub fn given(number: u8) -> u8
-    ensures { result ≡ number }
-{
+pub fn given(number: u8) -> u8 ensures { result ≡ number } {
     number
 }
 END
@@ -121,67 +117,47 @@ pub fn shown_again(one: u8, other: u8) -> u8 {
 }
 
 /// One more.
-pub fn one_more(number: u8) -> u16
-    ensures { result ≡ number + 1 }
-{
+pub fn one_more(number: u8) -> u16 ensures { result ≡ number + 1 } {
     u16::from(number) + 1
 }
 
 /// The next number.
-pub fn next(number: u8) -> u16
-    ensures { result ≡ number + 1 }
-{
+pub fn next(number: u8) -> u16 ensures { result ≡ number + 1 } {
     1 + u16::from(number)
 }
 
 /// The same number.
-pub fn same(number: u8) -> u16
-    ensures { result ≡ number }
-{
+pub fn same(number: u8) -> u16 ensures { result ≡ number } {
     u16::from(number) + 0
 }
 
 /// The number of the crate below.
-pub fn as_many() -> u8
-    ensures { result ≡ three }
-{
+pub fn as_many() -> u8 ensures { result ≡ three } {
     few::few()
 }
 
 /// Two more.
-pub fn two_more(number: u8) -> u16
-    ensures { result ≡ number + 2 }
-{
+pub fn two_more(number: u8) -> u16 ensures { result ≡ number + 2 } {
     one_more(number) + 1
 }
 
 /// A step from a number.
-pub fn step(number: u8) -> u16
-    ensures { result ≡ number + 1 }
-{
+pub fn step(number: u8) -> u16 ensures { result ≡ number + 1 } {
     u16::from(number) + STEP
 }
 
 /// A step to a number.
-pub fn step_to(number: u8) -> u16
-    ensures { result ≡ number + 1 }
-{
+pub fn step_to(number: u8) -> u16 ensures { result ≡ number + 1 } {
     STEP + u16::from(number)
 }
 
 /// A number that is greater.
-pub fn greater(number: u8) -> u8
-    requires { number < 255 }
-    ensures { number < result }
-{
+pub fn greater(number: u8) -> u8 requires { number < 255 } ensures { number < result } {
     number + 1
 }
 
 /// A number that is greater.
-pub fn greater_again(number: u8) -> u8
-    requires { number < 254 }
-    ensures { number < result }
-{
+pub fn greater_again(number: u8) -> u8 requires { number < 254 } ensures { number < result } {
     greater(number)
 }
 
@@ -199,42 +175,27 @@ pub fn count_error<X>(errors: &mut u64, outcome: Result<X, u8>) -> Result<X, u8>
 }
 
 /// A number that is no greater than either of two.
-pub fn at_most(one: u8, other: u8) -> u8
-    ensures first { result ≤ one }
-    ensures second { result ≤ other }
-{
+pub fn at_most(one: u8, other: u8) -> u8 ensures first { result ≤ one } ensures second { result ≤ other } {
     if one < other { one } else { other }
 }
 
 /// The same.
-pub fn lesser(left: u8, right: u8) -> u8
-    ensures first { result ≤ left }
-    ensures second { result ≤ right }
-{
+pub fn lesser(left: u8, right: u8) -> u8 ensures first { result ≤ left } ensures second { result ≤ right } {
     if left < right { left } else { right }
 }
 
 /// The same.
-pub fn no_greater(a: u8, b: u8) -> u8
-    ensures first { result ≤ a }
-    ensures second { result ≤ b }
-{
+pub fn no_greater(a: u8, b: u8) -> u8 ensures first { result ≤ a } ensures second { result ≤ b } {
     if a < b { a } else { b }
 }
 
 /// The same.
-pub fn smaller(this: u8, that: u8) -> u8
-    ensures first { result ≤ this }
-    ensures second { result ≤ that }
-{
+pub fn smaller(this: u8, that: u8) -> u8 ensures first { result ≤ this } ensures second { result ≤ that } {
     if this < that { this } else { that }
 }
 
 /// The same.
-pub fn minimum(x: u8, y: u8) -> u8
-    ensures first { result ≤ x }
-    ensures second { result ≤ y }
-{
+pub fn minimum(x: u8, y: u8) -> u8 ensures first { result ≤ x } ensures second { result ≤ y } {
     if x < y { x } else { y }
 }
 
@@ -445,6 +406,13 @@ old: Least::number(Least::of(one, other))
 new: Least::number((at_most(one, other), Least::of(one, other)).0)
 # right: Least::number((at_most(one, other), Least::of(one, other)).1)
 # type: Greatest
+
+file: src/out/mod.rt
+
+# one_less_is_given
+old:     number
+new:     number.saturating_sub(1)
+# right:     number.saturating_sub(0)
 END
 }
 
@@ -452,6 +420,7 @@ END
 small_lines() {
     cat <<'END'
 refused small adds_two: one_more: 
+refused small one_less_is_given: out::given: returns
 refused small adds_none: next: returns
 refused small one_too_many: as_many: returns
 refused small constant_of_two: step: returns
