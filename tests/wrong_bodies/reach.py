@@ -52,8 +52,9 @@ class Reach:
         self.files, self.functions, self.attributes, self.sources = {}, defaultdict(list), {}, {}
         # Items by the names that stand alone, and functions of types and traits by theirs.
         self.free, self.methods = defaultdict(list), defaultdict(list)
-        for name in crates.listed:
-            crate = Crate(crates, name)
+        of_names = {name: Crate(crates, name) for name in crates.listed}
+        self.types = {it for crate in of_names.values() for it in crate.types}
+        for name, crate in of_names.items():
             for path, text in sorted(crate.texts.items()):
                 self.sources[name, path] = File(name, path)
                 self.take(self.sources[name, path], text, sorted(crate.functions[path]))
@@ -68,10 +69,12 @@ class Reach:
             found = KIND.match(hidden, start)
             kind, name = found.groups() if found else ("", "")
             if kind in ("use", "ghost use"):
-                (file.used if kind == "use" else file.ghosts).extend(entries(text[found.end(1):end]))
-                for entry in entries(text[found.end(1):end]) if kind == "use" else ():
-                    if " as " in entry:
-                        self.add(file, self.free, [entry.split(" as ")[1]], entry.split(" as ")[0], "")
+                imports = entries(text[found.end(1):end])
+                (file.used if kind == "use" else file.ghosts).extend(imports)
+                # What is passed on, or has another name here, is found by its name.
+                for it in imports if kind == "use" else ():
+                    if " as " in it or "pub" in hidden[start:found.start(1)]:
+                        self.add(file, self.free, [re.split(r"::| as ", it)[-1]], it, "")
             elif kind in ("impl", "trait"):
                 self.take_members(file, text, hidden, functions, (start, end), kind, name)
             elif kind != "mod":
@@ -84,7 +87,8 @@ class Reach:
         head = text[start:opened]
         if kind == "impl":
             words = re.findall(r"\w+", re.sub(r"<(?:[^<>]|<[^<>]*>)*>", "", hidden[start:opened].split(" where ")[0]))
-            name = words[-1]
+            # What is implemented for a type of another crate goes with the trait.
+            name = words[-1] if words[-1] in self.types or "for" not in words else words[words.index("for") - 1]
         of_trait = kind == "trait" or re.search(r"\bfor\b", hidden[start:opened]) is not None
         parts = list(pieces(hidden, opened, end, 4))
         outside = text[opened : parts[0][0] if parts else end]

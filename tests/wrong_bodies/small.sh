@@ -83,40 +83,31 @@ pub mod out;
 ghost use Rattle.few.specs.Few.{three};
 ghost use Rattle.std.specs.Prelude.{◌≡◌, ◌+◌, ◌-◌, ◌^◌, ◌<◌, ◌≤◌, MatchResult, min};
 
-/// How far it is to the next number.
 const STEP: u16 = 1;
 
-/// The lesser of two numbers.
 #[derive(Clone, Copy)]
 pub struct Least {
     number: u8,
 }
 
 impl Least {
-    /// The lesser of two numbers.
     pub fn of(one: u8, other: u8) -> Least {
-        Least {
-            number: at_most(one, other),
-        }
+        Least { number: at_most(one, other) }
     }
 
-    /// The number.
     pub fn number(self) -> u8 {
         self.number
     }
 }
 
-/// The lesser of two numbers, as it is shown.
 pub fn shown(one: u8, other: u8) -> u8 {
     Least::number(Least::of(one, other))
 }
 
-/// The same, the other way round.
 pub fn shown_again(one: u8, other: u8) -> u8 {
     Least::number(Least::of(other, one))
 }
 
-/// One more.
 pub fn one_more(number: u8) -> u16 ensures { result ≡ number + 1 } {
     u16::from(number) + 1
 }
@@ -126,42 +117,34 @@ pub fn next(number: u8) -> u16 ensures { result ≡ number + 1 } {
     1 + u16::from(number)
 }
 
-/// The same number.
 pub fn same(number: u8) -> u16 ensures { result ≡ number } {
     u16::from(number) + 0
 }
 
-/// The number of the crate below.
 pub fn as_many() -> u8 ensures { result ≡ three } {
     few::few()
 }
 
-/// Two more.
 pub fn two_more(number: u8) -> u16 ensures { result ≡ number + 2 } {
     one_more(number) + 1
 }
 
-/// A step from a number.
 pub fn step(number: u8) -> u16 ensures { result ≡ number + 1 } {
     u16::from(number) + STEP
 }
 
-/// A step to a number.
 pub fn step_to(number: u8) -> u16 ensures { result ≡ number + 1 } {
     STEP + u16::from(number)
 }
 
-/// A number that is greater.
 pub fn greater(number: u8) -> u8 requires { number < 255 } ensures { number < result } {
     number + 1
 }
 
-/// A number that is greater.
 pub fn greater_again(number: u8) -> u8 requires { number < 254 } ensures { number < result } {
     greater(number)
 }
 
-/// Counts an outcome that is an error, up to the last count, and hands it back.
 pub fn count_error<X>(errors: &mut u64, outcome: Result<X, u8>) -> Result<X, u8>
     ensures same { result ≡ outcome }
     ensures count { (errors.old ≤ errors.new) × MatchResult result
@@ -174,32 +157,26 @@ pub fn count_error<X>(errors: &mut u64, outcome: Result<X, u8>) -> Result<X, u8>
     outcome
 }
 
-/// A number that is no greater than either of two.
 pub fn at_most(one: u8, other: u8) -> u8 ensures first { result ≤ one } ensures second { result ≤ other } {
     if one < other { one } else { other }
 }
 
-/// The same.
 pub fn lesser(left: u8, right: u8) -> u8 ensures first { result ≤ left } ensures second { result ≤ right } {
     if left < right { left } else { right }
 }
 
-/// The same.
 pub fn no_greater(a: u8, b: u8) -> u8 ensures first { result ≤ a } ensures second { result ≤ b } {
     if a < b { a } else { b }
 }
 
-/// The same.
 pub fn smaller(this: u8, that: u8) -> u8 ensures first { result ≤ this } ensures second { result ≤ that } {
     if this < that { this } else { that }
 }
 
-/// The same.
 pub fn minimum(x: u8, y: u8) -> u8 ensures first { result ≤ x } ensures second { result ≤ y } {
     if x < y { x } else { y }
 }
 
-/// Something beside a number.
 #[derive(Clone, Copy)]
 pub struct Beside<T> {
     other: T,
@@ -207,7 +184,6 @@ pub struct Beside<T> {
 }
 
 impl Beside<Least> {
-    /// The number that isn't the least.
     pub fn number_beside(self) -> u8
         ensures { result ≡ self.beside }
     {
