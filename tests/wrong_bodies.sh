@@ -53,7 +53,7 @@ if [ "$failed" -gt 0 ]; then cat "$scratch/said"; fi
 # are a few of its bodies.
 few='adds_two|adds_none|one_too_many|constant_of_two|zero_is_at_most_each|means_the_same'
 few_bodies() {
-    small_bodies | awk -v few="^# ($few)\n" 'BEGIN { RS = ""; ORS = "\n\n" } NR == 1 || $0 "\n" ~ few' >"$bodies"
+    small_bodies | awk -v few="^# ($few)$" '/^file: /; /^# [a-z_]+$/ { on = $0 ~ few } on && !/^file: /' >"$bodies"
     cp "$scratch/verdicts" "$verdicts"
 }
 bodies=$small/crates/small/wrong-bodies/lib.edit

@@ -94,20 +94,16 @@ impl Least {
     pub fn of(one: u8, other: u8) -> Least {
         Least { number: at_most(one, other) }
     }
-
     pub fn number(self) -> u8 {
         self.number
     }
 }
-
 pub fn shown(one: u8, other: u8) -> u8 {
     Least::number(Least::of(one, other))
 }
-
 pub fn shown_again(one: u8, other: u8) -> u8 {
     Least::number(Least::of(other, one))
 }
-
 pub fn one_more(number: u8) -> u16 ensures { result ≡ number + 1 } {
     u16::from(number) + 1
 }
@@ -116,35 +112,27 @@ pub fn one_more(number: u8) -> u16 ensures { result ≡ number + 1 } {
 pub fn next(number: u8) -> u16 ensures { result ≡ number + 1 } {
     1 + u16::from(number)
 }
-
 pub fn same(number: u8) -> u16 ensures { result ≡ number } {
     u16::from(number) + 0
 }
-
 pub fn as_many() -> u8 ensures { result ≡ three } {
     few::few()
 }
-
 pub fn two_more(number: u8) -> u16 ensures { result ≡ number + 2 } {
     one_more(number) + 1
 }
-
 pub fn step(number: u8) -> u16 ensures { result ≡ number + 1 } {
     u16::from(number) + STEP
 }
-
 pub fn step_to(number: u8) -> u16 ensures { result ≡ number + 1 } {
     STEP + u16::from(number)
 }
-
 pub fn greater(number: u8) -> u8 requires { number < 255 } ensures { number < result } {
     number + 1
 }
-
 pub fn greater_again(number: u8) -> u8 requires { number < 254 } ensures { number < result } {
     greater(number)
 }
-
 pub fn count_error<X>(errors: &mut u64, outcome: Result<X, u8>) -> Result<X, u8>
     ensures same { result ≡ outcome }
     ensures count { (errors.old ≤ errors.new) × MatchResult result
@@ -156,23 +144,18 @@ pub fn count_error<X>(errors: &mut u64, outcome: Result<X, u8>) -> Result<X, u8>
     }
     outcome
 }
-
 pub fn at_most(one: u8, other: u8) -> u8 ensures first { result ≤ one } ensures second { result ≤ other } {
     if one < other { one } else { other }
 }
-
 pub fn lesser(left: u8, right: u8) -> u8 ensures first { result ≤ left } ensures second { result ≤ right } {
     if left < right { left } else { right }
 }
-
 pub fn no_greater(a: u8, b: u8) -> u8 ensures first { result ≤ a } ensures second { result ≤ b } {
     if a < b { a } else { b }
 }
-
 pub fn smaller(this: u8, that: u8) -> u8 ensures first { result ≤ this } ensures second { result ≤ that } {
     if this < that { this } else { that }
 }
-
 pub fn minimum(x: u8, y: u8) -> u8 ensures first { result ≤ x } ensures second { result ≤ y } {
     if x < y { x } else { y }
 }
@@ -219,172 +202,137 @@ END
 small_bodies() {
     cat <<'END'
 file: src/lib.rt
-
 # adds_none
 old:     1 + u16::from(number)
 new:     1 + u16::from(number).saturating_sub(1)
 # right:     1 + u16::from(number).saturating_sub(0)
-
 # one_too_many
 old:     few::few()
 new:     few::few() + (0, 1).1
 # right:     few::few() + (0, 1).0
-
 # zero_of_the_tests
 old: { one } else
 new: { 0 } else
 # test: small_tests the_lesser_is_at_most_each
-
 # constant_of_two
 old: STEP: u16 = 1
 new: STEP: u16 = 2
 # in: step
-
 # two_functions_and_the_right_one
 old:     u16::from(number) + 0
 new:     u16::from(number) + 1
 old: if left < right
 new: if left <= right
 # in: same
-
 # number_in_place_of_the_least
 old: Least::number(Least::of(one, other))
 new: Least::number((at_most(one, other), Least::of(one, other)).0)
 # right: Least::number((at_most(one, other), Least::of(one, other)).1)
 # type: Least
-
 # error_counted_twice_with_its_twin
 old: errors.saturating_add(1)
 new: errors.saturating_add((1, 2).1)
 # right: errors.saturating_add((1, 2).0)
-
 # least_in_place_of_the_number_beside
 old:         self.beside
 new:         (self.beside, self.other.number).1
 # right:         (self.beside, self.other.number).0
-
 # means_the_same
 old: if x < y
 new: if x <= y
-
 # zero_is_at_most_each
 old: { this } else
 new: { 0 } else
-
 # passes_its_tests
 old: left < right
 new: left <= right
 # test: small_tests the_lesser_is_at_most_each
-
 # caught_by_a_broken_test
 old: { x } else
 new: { 0 } else
 # test: small_tests the_greater_is_at_most_each
-
 # caught_by_no_test
 old: if this < that
 new: if this <= that
 # test: small_tests there_is_no_such_test
-
 # refused_and_caught
 old: { a } else { b }
 new: { b } else { a }
 # test: small_tests the_lesser_is_at_most_each
-
 # does_not_fit
 old: if one > other
 new: if one < other
-
 # text_in_place_of_a_number
 old:     u16::from(number) + 1
 new:     u16::from(number) + "1"
-
 # goes_where_no_proof_follows
 old:     one_more(number) + 1
 new:     next(number) + 2
 # right:     next(number) + 1
-
 # has_no_right_twin
 old:     1 + u16::from(number)
 new:     2 + 1 * u16::from(number)
-
 # its_twin_is_wrong_too
 old:     u16::from(number) + 0
 new:     u16::from(number) + (1 - 0)
 # right:     u16::from(number) + (2 - 1)
-
 # its_twin_has_another_shape
 old: if one < other
 new: if other > one
 # right: if (one) < other
-
 # means_the_same_beside_a_constant
 old:     STEP + u16::from(number)
 new:     STEP + 1 * u16::from(number)
 # right:     STEP + 0x1 * u16::from(number)
-
 # greater_by_two
 old:     number + 1
 new:     number + 2
-
 # greater_than_the_greatest
 old:     greater(number)
 new:     greater(255)
-
 # error_counted_twice
 old: errors.saturating_add(1)
 new: errors.saturating_add(2)
-
 # two_functions
 old:     1 + u16::from(number)
 new:     0 + u16::from(number)
 old: if one < other
 new: if one <= other
-
 # two_functions_and_the_wrong_one
 old:     1 + u16::from(number)
 new:     0 + u16::from(number)
 old: if one < other
 new: if one <= other
 # in: at_most
-
 # names_no_function
 old: if left < right
 new: if left <= right
 # in: no_such_function
-
 # comment_in_place_of_code
 old: if left < right
 new: if left < left // right
-
 # words_of_the_contracts
 old: ghost use Rattle.std.specs
 new: ghost use Rattle.core.specs
 # in: step
-
 # contract_of_two_more
 old:     ensures { result ≡ number + 2 }
 new:     ensures { result ≡ number + 3 }
-
 # its_twin_does_not_compile
 old:     STEP + u16::from(number)
 new:     STEP + u16::from(number) + (1, 0).0
 # right:     STEP + u16::from(number) + (1, 0u8).1
-
 # least_in_place_of_the_least
 old: Least::number(Least::of(other, one))
 new: Least::number((Least::of(one, other), Least::of(other, one)).0)
 # right: Least::number((Least::of(one, other), Least::of(other, one)).1)
 # type: Least
-
 # number_in_place_of_another_type
 old: Least::number(Least::of(one, other))
 new: Least::number((at_most(one, other), Least::of(one, other)).0)
 # right: Least::number((at_most(one, other), Least::of(one, other)).1)
 # type: Greatest
-
 file: src/out/mod.rt
-
 # one_less_is_given
 old:     number
 new:     number.saturating_sub(1)

@@ -43,7 +43,7 @@ CHANGES = [
     ("a test", "crates/small_tests/src/lib.rt", "lesser(1, 2), 1", "lesser(1, 3), 1",
      ["passes_its_tests", "refused_and_caught", "zero_of_the_tests"]),
     ("its right twin", "crates/small/wrong-bodies/lib.edit", "from(number).saturating_sub(0)", "from(number).saturating_sub(0 + 0)", ["adds_none"]),
-    ("its line on who refuses it", "crates/small/wrong-bodies/lib.edit", "# in: step\n\n# two", "# in: step_to\n\n# two",
+    ("its line on who refuses it", "crates/small/wrong-bodies/lib.edit", "# in: step\n# two", "# in: step_to\n# two",
      ["constant_of_two"]),
     ("the libraries of its crate", "crates.txt", "small: few\n", "small: few sha2\n", None),
     ("the tactics of its crate", SOURCE, "#![tactic(auto)]", "#![tactic(auto, few)]", None),

@@ -44,7 +44,7 @@ class Work:
 
     def __init__(self, crate, folder, bodies):
         self.crate, self.kept, self.names = crate, Kept(folder, crate.name), [it.name for it in bodies]
-        # The changes of each body that fits, and which of the bodies are to be tried; the first each time one was.
+        # The changes of each body that fits, the bodies that are to be tried, and what the changes of each came to so far.
         self.changes, self.tried, self.found = {}, [], {}
 
     def fits(self, body, sums):
