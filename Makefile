@@ -40,8 +40,8 @@ SECONDS = 1800
 SEED =
 
 .PHONY: run programs library libraries test check release-check gate wrong-bodies check-programs check-library \
-    out-of-memory interop soak search kernel bench bench-feeding bench-parallel bench-bindings reproducible install uninstall \
-    install-library uninstall-library install-python uninstall-python dist release deb clean help
+    out-of-memory interop soak search kernel bench bench-feeding bench-parallel bench-bindings reproducible install \
+    uninstall install-library uninstall-library install-python uninstall-python dist release deb clean help
 
 # Proves and builds the one program that this needs, and prints the digest of a real file.
 run:

@@ -2,8 +2,8 @@
 # What can differ between kinds of programs, over one kind: hashing by each function, the stack that it takes, and how
 # the programs take their words, files, streams, signals, memory and a terminal. What can't differ tests/programs/ and
 # the comparisons show over the programs in bin/. Expected values come from sha256sum over stated bytes and from
-# tests/lib/trees.py. BIN=FOLDER takes the programs of another folder than bin/. Those that qemu runs on other processors
-# of x86-64 are those of bin/any (tests/lib/kinds.sh), so there it is hashing and the stack alone.
+# tests/lib/trees.py. BIN=FOLDER takes the programs of another folder than bin/. Those that qemu runs on other
+# processors of x86-64 are those of bin/any (tests/lib/kinds.sh), so there it is hashing and the stack alone.
 set -u
 cd "$(dirname "$0")/.."
 . tests/lib/checks.sh

@@ -1,8 +1,9 @@
 #!/usr/bin/env bash
 # `make deb` makes packages of a commit. Their files, what they depend on and their version are those of
-# docs/PACKAGING.md, and lintian has no error and no warning. With RUNS=all they are made again: in another folder, later
-# and by a user with other settings, with the same bytes; and of a version that is released. For each architecture dpkg installs them into a root that has a C library alone; there the programs
-# run, and debian/tests with what stands there, for arm64 by qemu; and once they are purged the root is what it was.
+# docs/PACKAGING.md, and lintian has no error and no warning. With RUNS=all they are made again: in another folder,
+# later and by a user with other settings, with the same bytes; and of a version that is released. For each architecture
+# dpkg installs them into a root that has a C library alone; there the programs run, and debian/tests with what stands
+# there, for arm64 by qemu; and once they are purged the root is what it was.
 set -u
 cd "$(dirname "$0")/.."
 . tests/lib/checks.sh

@@ -40,14 +40,16 @@ done
 
 # The minutes of a command are the same wherever they are said; `TIME?` stands for what nobody has measured yet.
 number='([0-9]+|TIME\?) minutes?'
-cat README.md CONTRIBUTING.md | tr -s ' \n' '  ' | grep -oP "\bmake [a-z-]+(?![a-z-])(?:(?!\bmake ).){0,120}?\b$number" |
+cat README.md CONTRIBUTING.md | tr -s ' \n' '  ' |
+    grep -oP "\bmake [a-z-]+(?![a-z-])(?:(?!\bmake ).){0,120}?\b$number" |
     sed -E "s/^make ([a-z-]+).*[^0-9]$number\$/\1 \2/" >"$scratch/by_readme"
 make -s help | sed -nE "s/^make ([a-z-]+) +$number.*/\1 \2/p" >"$scratch/by_help"
 sed -nE "s/^\| \`make ([a-z-]+)\` \|.*\| $number.* \|\$/\1 \2/p" docs/TESTS.md >"$scratch/by_table"
 same 'commands of which two places say different minutes' '' \
     "$(sort -u "$scratch"/by_* | cut -d ' ' -f 1 | uniq -d | paste -sd ' ')"
 same 'commands of docs/TESTS.md whose minutes make help lacks' '' \
-    "$(comm -23 <(cut -d ' ' -f 1 "$scratch/by_table" | sort) <(cut -d ' ' -f 1 "$scratch/by_help" | sort) | paste -sd ' ')"
+    "$(comm -23 <(cut -d ' ' -f 1 "$scratch/by_table" | sort) <(cut -d ' ' -f 1 "$scratch/by_help" | sort) |
+        paste -sd ' ')"
 same 'rows of docs/TESTS.md with minutes' "$(grep -c '^| `make ' docs/TESTS.md)" "$(wc -l <"$scratch/by_table")"
 same 'commands of README.md with minutes' 'programs run test' \
     "$(cut -d ' ' -f 1 "$scratch/by_readme" | sort -u | paste -sd ' ')"

@@ -25,7 +25,8 @@ fi
 # lacks TEXT [SEED]: without the row that begins with this text the search fails, over cases that need it.
 lacks() {
     grep -vF "| $1 |" docs/DIFFERENCES.md >"$scratch/document"
-    tests/search/search.py SEED="${2:-1}" SECONDS=300 CASES=1200 FAILURES=1 DOCUMENT="$scratch/document" >"$scratch/said"
+    tests/search/search.py SEED="${2:-1}" SECONDS=300 CASES=1200 FAILURES=1 DOCUMENT="$scratch/document" \
+        >"$scratch/said"
     same "without the row '$1': status" 1 $?
     if grep -q '^FAILED .*: no row covers the ' "$scratch/said"; then
         pass

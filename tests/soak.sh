@@ -3,8 +3,8 @@
 # Each run is compared with a second reading of docs/DEFINITIONS.md in Python, and one in eight with Debian's programs
 # too, as far as docs/DIFFERENCES.md lets them agree. The code is in tests/soak/.
 #
-#   tests/soak.sh                  the self-test, and 20 seconds of cases, or with RUNS=all ten minutes, of a seed that is
-#                                  drawn and printed
+#   tests/soak.sh                  the self-test, and 20 seconds of cases, or with RUNS=all ten minutes, of a seed that
+#                                  is drawn and printed
 #   tests/soak.sh SEED=N SECONDS=N [CASES=N] [WORKERS=N]
 #   tests/soak.sh SEED=N CASE=N    repeats one case, as a failed one is printed
 #   tests/soak.sh --self-test      runs faulty programs, and passes if each is seen

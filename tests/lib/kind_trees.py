@@ -44,7 +44,8 @@ def main():
     for i, function in enumerate(["sha256", "sha512"]):
         for j, salt in enumerate(FILE_SALTS):
             block, size = FILES[(i + j) % len(FILES)]
-            print("file", function, block, salt.hex() or "-", size, FileTree(function, block, salt, data[:size]).digest.hex())
+            tree = FileTree(function, block, salt, data[:size])
+            print("file", function, block, salt.hex() or "-", size, tree.digest.hex())
 
 
 main()

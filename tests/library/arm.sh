@@ -2,8 +2,8 @@
 # The libraries for 64-bit ARM, in an emulator: the tests of images, refused parameters and superblocks, random calls,
 # and trees that are built of pieces and of parts, in all of which they leave the register x18 alone; and that a call
 # keeps what include/verity.h and verity(3) say of registers and stack. Then trees that are stored after each call go on
-# by another of the libraries, or by that for x86-64. SEED=N draws other settings, RUNS=all four times as
-# many of them, LIB=FOLDER and ARM_LIB=FOLDER take the libraries of other folders.
+# by another of the libraries, or by that for x86-64. SEED=N draws other settings, RUNS=all four times as many of them,
+# LIB=FOLDER and ARM_LIB=FOLDER take the libraries of other folders.
 set -u
 cd "$(dirname "$0")/../.."
 . tests/lib/checks.sh
@@ -87,7 +87,8 @@ for library in libverity.a libverity-strict-align.a; do
     fi
 done
 
-# tries_library LIBRARY PART: the tests of a library, with one in PART of all images, random calls and feedings. The programs stand in the scratch folder, in one of the library's name.
+# tries_library LIBRARY PART: the tests of a library, with one in PART of all images, random calls and feedings. The
+# programs stand in the scratch folder, in one of the library's name.
 tries_library() {
     local library=$ARM_LIB/$1 part=$2 built=$scratch/$1
     local static=(aarch64-linux-gnu-gcc -static -O2 "${platform[@]}" tests/library/chains.c "${feeding_sources[@]}")

@@ -2,8 +2,8 @@
 # The library from C, over images that Debian's veritysetup and fsverity make by random settings: superblock, levels,
 # places, and each data block by its path and link by link; and that each change is refused, with the status and the
 # level that follow. Then each function with each of its faults: the status of each, and their order. With the static
-# library and with the shared one. SEED=N draws other settings, RUNS=all five times as many of them, LIB=FOLDER takes the
-# library of another folder.
+# library and with the shared one. SEED=N draws other settings, RUNS=all five times as many of them, LIB=FOLDER takes
+# the library of another folder.
 set -u
 cd "$(dirname "$0")/../.."
 . tests/lib/checks.sh

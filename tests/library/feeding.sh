@@ -5,8 +5,8 @@
 # ones each in the next way. Every hash block is handed out once, at its place. Trees that are stored after any call go
 # on in other memory, and in other processes. Then what is refused, and 50,000 random feedings under AddressSanitizer
 # and UndefinedBehaviorSanitizer, in random order with ends and stored states, and in some of which struct and memory
-# are disturbed; or with RUNS=all a million, and more images and files. SEED=N draws other settings, LIB=FOLDER takes the
-# library of another folder.
+# are disturbed; or with RUNS=all a million, and more images and files. SEED=N draws other settings, LIB=FOLDER takes
+# the library of another folder.
 set -u
 cd "$(dirname "$0")/../.."
 . tests/lib/checks.sh
@@ -34,7 +34,8 @@ if compiles "$scratch/stored" gcc -O2 tests/library/stored.c "${static[@]}"; the
     stores_images "$scratch/stored" "$(few 2 5)" "$(few 2 5)" $((1 << 17))
 fi
 if compiles "$scratch/shared" gcc -O2 tests/library/feeding.c "${shared[@]}"; then
-    feeds_settings 'all settings, shared' "$scratch/shared" "$(few $((1 << 12)) $((1 << 15)))" "$(few $((1 << 9)) $((1 << 16)))"
+    feeds_settings 'all settings, shared' "$scratch/shared" "$(few $((1 << 12)) $((1 << 15)))" \
+        "$(few $((1 << 9)) $((1 << 16)))"
     feeds_large 'large blocks, shared' "$scratch/shared" "$(few $((1 << 17)) $((1 << 19)))"
     feeds_images "$scratch/shared" "$(few 2 5)" "$(few 2 5)" $((1 << 20))
 fi

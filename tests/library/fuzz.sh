@@ -1,7 +1,7 @@
 #!/usr/bin/env bash
-# 100,000 calls of the library with random and with changed input: superblocks, parameters, blocks, paths, root hashes
-# and lengths, or with RUNS=all two million. Each answer is the one that an own reading of verity.h gives, and just what has to be accepted is.
-# SEED=N draws other input, LIB=FOLDER takes the library of another folder.
+# 100,000 calls of the library, or with RUNS=all two million, with random and with changed input: superblocks,
+# parameters, blocks, paths, root hashes and lengths. Each answer is the one that an own reading of verity.h gives, and
+# just what has to be accepted is. SEED=N draws other input, LIB=FOLDER takes the library of another folder.
 set -u
 cd "$(dirname "$0")/../.."
 . tests/lib/checks.sh

@@ -46,7 +46,8 @@ export ASAN_OPTIONS=detect_leaks=0 UBSAN_OPTIONS=print_stacktrace=1
 if ! has_sanitizers; then
     echo "left out: under sanitizers: $no_sanitizers"
 elif compiles "$scratch/sanitized" gcc "${sanitizers[@]}" "${sources[@]}" "$LIB/libverity.a"; then
-    builds_parts 'all settings, under sanitizers' "$scratch/sanitized" "$(few $((1 << 12)) $((1 << 13)))" "$(few 64 256)"
+    builds_parts 'all settings, under sanitizers' "$scratch/sanitized" "$(few $((1 << 12)) $((1 << 13)))" \
+        "$(few 64 256)"
     breaks_parts 'mistakes of the caller, under sanitizers' "$scratch/sanitized"
     feeds_images "$scratch/sanitized" "$(few 1 3)" "$(few 1 3)" $((1 << 17))
 fi

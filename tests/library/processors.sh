@@ -1,10 +1,10 @@
 #!/usr/bin/env bash
 # The library on other processors, by each hash function over all settings, and by random calls. On the first x86-64
-# processor, which qemu imitates, what is built for x86-64 builds trees and checks blocks, static and shared, and glibc's
-# loader passes over the shared one for x86-64-v3. What is built for x86-64-v3 does so on this processor, if it has all
-# of that, and is seen to end on the first one by an illegal instruction. And for which processors `make library` and
-# `make programs` build, and what the former does without a compiler that links. SEED=N draws other settings and input,
-# LIB=FOLDER takes the library of another folder.
+# processor, which qemu imitates, what is built for x86-64 builds trees and checks blocks, static and shared, and
+# glibc's loader passes over the shared one for x86-64-v3. What is built for x86-64-v3 does so on this processor, if it
+# has all of that, and is seen to end on the first one by an illegal instruction. And for which processors
+# `make library` and `make programs` build, and what the former does without a compiler that links. SEED=N draws other
+# settings and input, LIB=FOLDER takes the library of another folder.
 set -u
 cd "$(dirname "$0")/../.."
 . tests/lib/checks.sh
