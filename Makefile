@@ -39,9 +39,9 @@ DIST = dist
 SECONDS = 1800
 SEED =
 
-.PHONY: run programs library libraries test check gate wrong-bodies check-programs check-library out-of-memory interop \
-    soak search kernel bench bench-feeding bench-parallel bench-bindings reproducible install uninstall \
-    install-library uninstall-library install-python uninstall-python dist release deb clean help
+.PHONY: run programs library libraries test check release-check gate wrong-bodies check-programs check-library \
+    out-of-memory interop soak search kernel bench bench-feeding bench-parallel bench-bindings reproducible install \
+    uninstall install-library uninstall-library install-python uninstall-python dist release deb clean help
 
 # Proves and builds the one program that this needs, and prints the digest of a real file.
 run:
@@ -74,6 +74,11 @@ test:
 check: programs libraries
 	tests/all.sh --without-gate
 
+# All tests in full, as before a release: all wrong bodies anew, each kind of programs and libraries by all tests, every
+# setting, every request for memory, all random runs, and the kernel.
+release-check:
+	tests/all.sh --release
+
 # The gate: every proof from nothing, the tests of the crates, the programs' stored runs, and beside it each wrong body,
 # which the prover has to refuse or a test has to catch.
 gate:
@@ -83,13 +88,14 @@ gate:
 wrong-bodies:
 	tests/wrong_bodies/wrong_bodies.py $(if $(ANEW),--anew) $(CRATE)
 
-# Runs the programs as a user would. Needs no other tool.
+# Runs the programs as a user would, and compares status, standard output, standard error and files with stated
+# expectations. Needs no other tool.
 check-programs: programs
-	tests/programs.sh
+	COMMAND='make check-programs' tests/run.sh -- tests/programs/*.sh
 
 # Calls the library from C, compares it with Debian's programs, and runs its examples. Needs a C compiler.
 check-library: libraries
-	tests/library.sh
+	COMMAND='make check-library' tests/run.sh -- tests/library/*.sh
 
 # Refuses each request for memory in turn, of the run functions and of the programs. Needs a C compiler.
 out-of-memory: programs
@@ -98,8 +104,7 @@ out-of-memory: programs
 # Compares the programs with Debian's packages cryptsetup-bin and fsverity, which have to be installed, over every
 # combination of the settings; `make test` goes over fewer.
 interop: programs
-	SETTINGS=all tests/run.sh -- tests/interop/differences.sh tests/interop/superblock.sh tests/interop/fsverity.sh \
-	    tests/interop/format.sh tests/interop/verify.sh
+	COMMAND='make interop' SETTINGS=all tests/run.sh -- tests/interop/*.sh
 
 # Random runs of both programs, compared with a second implementation of the definitions in Python and with Debian's
 # programs. Needs these and python3.
@@ -185,12 +190,13 @@ help:
 	@echo 'make run             7 minutes     proves and builds fsverity, and prints the digest of a file'
 	@echo 'make programs        11 minutes    proves and builds bin/fsverity and bin/veritysetup [TARGET, CPU, STATIC=yes]'
 	@echo 'make library         6 minutes     proves and builds the library for C [TARGET, CPU]'
-	@echo 'make test            80 minutes    all tests: gate, the programs as a user runs them, documents, comparisons'
-	@echo 'make check           5 minutes +   all tests but the gate'
+	@echo 'make test            TIME? minutes all tests: gate, the programs as a user runs them, documents, comparisons'
+	@echo 'make check           TIME? minutes + all tests but the gate'
+	@echo 'make release-check   TIME? minutes all tests in full, as before a release'
 	@echo 'make gate            60 minutes    every proof from nothing, tests of the crates, wrong bodies to be refused'
 	@echo 'make wrong-bodies    40 minutes +  sees each wrong body refused in its own function [CRATE, ANEW]'
-	@echo 'make check-programs  a minute +    runs the programs as a user would'
-	@echo 'make check-library   5 minutes +   calls the library from C, and runs its examples'
+	@echo 'make check-programs  1 minute +    runs the programs as a user would'
+	@echo 'make check-library   TIME? minutes + calls the library from C, and runs its examples'
 	@echo 'make out-of-memory   7 minutes +   refuses each request for memory in turn'
 	@echo 'make interop         10 minutes +  compares the programs with those of Debian, over all settings'
 	@echo 'make soak            30 minutes +  random runs of both programs, compared with other programs [SECONDS, SEED]'
@@ -200,7 +206,7 @@ help:
 	@echo 'make bench           7 minutes +   measures speed and memory beside bare hashing and Debian programs [SHA=no]'
 	@echo 'make bench-feeding   2 minutes +   measures the library that is fed with pieces of a file'
 	@echo 'make bench-parallel  2 minutes +   measures a tree that is built from parts by threads'
-	@echo 'make bench-bindings  a minute +    measures the bindings of the library beside calls from C'
+	@echo 'make bench-bindings  1 minute +    measures the bindings of the library beside calls from C'
 	@echo 'make reproducible    5 minutes +   builds once more in another folder, and compares the programs'
 	@echo 'make install         seconds       installs programs, pages and completion, and the library if it is built'
 	@echo '                                   [TARGET, CPU, STATIC=yes, PREFIX, DESTDIR, SUFFIX, STRIP=yes, BINDIR,'
@@ -211,6 +217,6 @@ help:
 	@echo 'make install-python  seconds       installs the module for Python; make uninstall-python removes it'
 	@echo '                                   [DESTDIR, PYTHON, PYTHONDIR]'
 	@echo 'make dist            seconds       makes an archive of what is committed, with the version in its name [DIST]'
-	@echo 'make release         a minute +    makes an archive of static programs and library for each target [DIST]'
-	@echo 'make deb             a minute +    makes the packages for Debian, for amd64 and arm64 [DIST]'
+	@echo 'make release         1 minute +    makes an archive of static programs and library for each target [DIST]'
+	@echo 'make deb             1 minute +    makes the packages for Debian, for amd64 and arm64 [DIST]'
 	@echo 'make clean           seconds       removes what was built, and what is kept of the proofs'

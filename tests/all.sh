@@ -1,82 +1,119 @@
 #!/usr/bin/env bash
 # All tests: the gate, what it built, then the programs, run as a user runs them, the examples of the documents, and the
 # comparisons with Debian's programs, if these are installed. Beside all of this each wrong body is tried. The tests go
-# over the programs for each processor that runs here; a minute of random runs and one of random command lines go over
-# those of bin/. The library for C is called from C, and its examples run. All that comes after the gate and what it
-# built runs side by side. The last line is 'N passed, M failed', over all parts.
+# over the programs in bin/, which are those for this processor; over each other kind of programs goes what can differ
+# there. The library for C is called from C, and its examples run. All that comes after the gate and what it built runs
+# side by side. Random runs are others each time: their seed is in the lines of the parts, or they print it. The last
+# line is 'N passed, M failed', over all parts.
 # With --without-gate the programs that are in bin/ are tested, and the output says that the gate was left out. With
-# --gate-alone the gate runs, and beside it the wrong bodies.
+# --gate-alone the gate runs, and beside it the wrong bodies. With --release all is tried in full, as before a release:
+# also wrong bodies that have passed, each kind of programs and libraries by all tests, every setting, every request for
+# memory, twenty times as many random runs, and the kernel.
 set -u
 cd "$(dirname "$0")/.."
 . tests/lib/kinds.sh
-builds=(bin/x86-64-v2)
+builds=(bin)
 kinds=()
 libraries=(lib)
+release=no
+seed=${SEED:-$((RANDOM * 32768 + RANDOM))}
 
 # runs_v3: whether what was built for x86-64-v3 runs here.
 runs_v3() {
     [ "$(./processor.sh)" = x86-64-v3 ]
 }
 
-# add_programs: adds the parts that test programs and libraries.
-add_programs() {
-    local script build library feedings
-    if runs_v3; then libraries+=(lib/glibc-hwcaps/x86-64-v3); fi
-    feedings=$((1000000 / ${#libraries[@]}))
-    # The longest first, so that no processor waits for one at the end.
-    parts+=('tests/memory.sh --short' tests/soak.sh tests/search.sh)
-    # What is handed out is made of all kinds of programs.
-    if [ ${#kinds[@]} -gt 0 ]; then parts+=(tests/packages.sh tests/release.sh); fi
-    for script in tests/interop/*.sh tests/programs/*.sh tests/processor.sh tests/readme.sh tests/manual.sh \
-        tests/recipes.sh; do
-        for build in "${builds[@]}"; do
-            parts+=("env BIN=$build $script")
-        done
-    done
-    # Programs for every processor, static ones and those for 64-bit ARM.
-    for build in "${kinds[@]}"; do
-        # A library that refuses memory is loaded before dynamic ones alone.
-        case $build in
-        bin/any) parts+=("env BIN=$build tests/memory.sh --programs" "env BIN=$build tests/processor.sh") ;;
-        bin/static) parts+=("env BIN=$build tests/empty_root.sh" "env BIN=$build tests/processor.sh") ;;
-        */aarch64) parts+=("env BIN=$build tests/memory.sh --programs") ;;
-        */aarch64-static) parts+=('env BIN=bin/aarch64/static tests/empty_root.sh') ;;
-        esac
-        for script in tests/programs/*.sh 'tests/soak.sh SEED=1 SECONDS=15' 'tests/search.sh SEED=1 SECONDS=15'; do
-            parts+=("env BIN=$build $script")
-        done
-    done
-    # A million random feedings, over all libraries together.
-    for library in "${libraries[@]}"; do
-        parts+=("env LIB=$library FEEDINGS=$feedings tests/library/feeding.sh" "env LIB=$library tests/library/parts.sh"
-            "env LIB=$library tests/library/debian_images.sh" "env LIB=$library tests/library/header.sh")
-    done
+# over FOLDER PART..: adds parts over the programs of a folder.
+over() {
+    local part
+    for part in "${@:2}"; do parts+=("env BIN=$1 $part"); done
+}
+
+# add_kind FOLDER: adds the parts over one of the other kinds of programs.
+add_kind() {
+    # A library that refuses memory is loaded before dynamic programs alone.
+    case $1 in
+    bin/x86-64-v2 | bin/any) over "$1" tests/processor.sh ;;
+    bin/static) over "$1" tests/processor.sh tests/empty_root.sh ;;
+    */aarch64) over "$1" 'tests/memory.sh --programs' ;;
+    */aarch64-static) over bin/aarch64/static tests/empty_root.sh ;;
+    esac
+    if [ $release = no ]; then
+        over "$1" tests/each_kind.sh
+    else
+        if [ "$1" = bin/any ]; then over "$1" 'tests/memory.sh --programs'; fi
+        over "$1" tests/each_kind.sh tests/programs/*.sh 'tests/soak.sh SEED= SECONDS=15' \
+            'tests/search.sh SEED= SECONDS=15'
+    fi
+}
+
+# add_library: adds the parts over the library for C.
+add_library() {
+    local library script
     for script in tests/library/*.sh; do
         case $script in
-        */debian_images.sh | */feeding.sh | */header.sh | */parts.sh) continue ;;
+        # What goes over one library.
+        */debian_images.sh | */feeding.sh | */header.sh | */parts.sh)
+            for library in "${libraries[@]}"; do parts+=("env LIB=$library SEED=$seed $script"); done
+            ;;
+        */fuzz.sh | */sanitized.sh) parts+=("env SEED=$seed $script") ;;
+        *) parts+=("$script") ;;
         esac
-        parts+=("$script")
     done
+}
+
+# add_tests: adds the parts that test programs and libraries, the longest first, so that no processor waits for one at
+# the end.
+add_tests() {
+    local build memory='tests/memory.sh --short'
+    if [ $release = yes ]; then
+        memory=tests/memory.sh
+        parts+=(tests/kernel.sh)
+    fi
+    parts+=("$memory" tests/soak.sh tests/search.sh)
+    # What is handed out is made of all kinds of programs.
+    if [ ${#kinds[@]} -gt 0 ]; then parts+=(tests/packages.sh tests/release.sh); fi
+    add_library
+    for build in "${builds[@]}"; do
+        over "$build" tests/interop/*.sh tests/programs/*.sh tests/processor.sh tests/readme.sh tests/manual.sh \
+            tests/recipes.sh
+    done
+    for build in "${kinds[@]}"; do add_kind "$build"; done
     parts+=(tests/bindings/*.sh tests/definitions.sh tests/pictures.sh tests/install.sh tests/completion.sh tests/running.sh
         tests/runtime.sh tests/any_processor.sh tests/kinds.sh)
 }
 
+# COMMAND is what docs/TESTS.md says the minutes of.
+export COMMAND='make test'
 parts=(--beside tests/wrong_bodies.sh tests/gate.sh)
 case ${1:-} in
---gate-alone) ;;
+--gate-alone) COMMAND='make gate' ;;
 --without-gate)
+    COMMAND='make check'
     parts=(tests/no_gate.sh --)
-    builds=(bin)
-    add_programs
+    add_tests
+    ;;
+--release)
+    COMMAND='make release-check'
+    export RUNS=all SETTINGS=all
+    release=yes
+    parts=(--beside 'tests/wrong_bodies.sh --anew' tests/gate.sh tests/built.sh --)
+    builds=(bin/x86-64-v2)
+    mapfile -t kinds < <(kinds)
+    if runs_v3; then
+        builds+=(bin/x86-64-v3)
+        libraries+=(lib/glibc-hwcaps/x86-64-v3)
+    fi
+    add_tests
     ;;
 '')
     parts+=(tests/built.sh --)
-    if runs_v3; then builds+=(bin/x86-64-v3); fi
     mapfile -t kinds < <(kinds)
-    add_programs
+    if runs_v3; then kinds=(bin/x86-64-v2 "${kinds[@]}"); fi
+    add_tests
     ;;
 *)
-    echo 'usage: tests/all.sh [--without-gate|--gate-alone]' >&2
+    echo 'usage: tests/all.sh [--without-gate|--gate-alone|--release]' >&2
     exit 2
     ;;
 esac

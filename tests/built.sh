@@ -45,6 +45,12 @@ builds() {
     fi
 }
 
+# builds_libraries: builds the library for C for both targets, in the same way.
+builds_libraries() {
+    local target
+    for target in x86_64 aarch64; do built $target KEPT="$scratch/libraries.kept" ./library.sh $target; done
+}
+
 # What the gate built, before anything takes its place.
 for name in "${programs[@]}"; do
     mkdir -p bin/x86-64-v2
@@ -55,10 +61,8 @@ for name in "${programs[@]}"; do
         fail "bin/x86-64-v2/$name" 'it was not built'
     fi
 done
-# Side by side: each proves a crate of its own, or for targets of its own. The gate proves the library for C, but builds
-# none.
-jobs=('builds fsverity' 'builds veritysetup' 'built x86_64 ./library.sh x86_64' 'built aarch64 ./library.sh aarch64')
-for job in "${jobs[@]}"; do
+# Side by side: each proves a crate of its own. The gate proves the library for C, but builds none.
+for job in 'builds fsverity' 'builds veritysetup' builds_libraries; do
     $job &
     if [ $over_gate = no ]; then wait; fi
 done

@@ -1,8 +1,9 @@
 #!/usr/bin/env bash
-# `make deb` makes the same packages of a commit in two folders, whatever the user has set. Their files, what they
-# depend on and their version are those of docs/PACKAGING.md, and lintian has no error and no warning, of those of a
-# release either. For each architecture dpkg installs them into a root that has a C library alone; there the programs
-# run, and debian/tests with what stands there, for arm64 by qemu; and once they are purged the root is what it was.
+# `make deb` makes packages of a commit. Their files, what they depend on and their version are those of
+# docs/PACKAGING.md, and lintian has no error and no warning. With RUNS=all they are made again: in another folder,
+# later and by a user with other settings, with the same bytes; and of a version that is released. For each architecture
+# dpkg installs them into a root that has a C library alone; there the programs run, and debian/tests with what stands
+# there, for arm64 by qemu; and once they are purged the root is what it was.
 set -u
 cd "$(dirname "$0")/.."
 . tests/lib/checks.sh
@@ -64,8 +65,6 @@ refuses 'a version that differs' "debian/changelog has version 0.9-$revision, an
     "$other" deb
 rm -rf "$other"
 
-# The other is made later, by a user with other settings.
-cp -r "$one" "$other"
 version=$release~$(commit_in "$one")
 makes 'make deb' "$one" "$debs" "$version"
 if [ ! -e "$debs" ]; then
@@ -73,29 +72,37 @@ if [ ! -e "$debs" ]; then
     finish
     exit
 fi
-sleep 1
-(
-    umask 077
-    export TZ=Asia/Tokyo LC_ALL=C.UTF-8 GZIP=--rsyncable TAR_OPTIONS=--exclude=*.md BIN=none LIB=none PREFIX=/opt \
-        SUFFIX=x STRIP=yes LIBDIR=/lib64 TARGET=none STATIC=no DEB_BUILD_OPTIONS='nostrip parallel=3' \
-        SOURCE_DATE_EPOCH=1 DEB_HOST_ARCH=i386
-    make -s -C "$other" --no-print-directory deb
-) >"$scratch/.made" 2>&1 </dev/null
-same 'make deb, elsewhere: status' 0 $?
-for file in $(names "$version"); do same_bytes "make deb, elsewhere: $file" "$debs/$file" "$other/dist/$file"; done
-headed "$other" "$release (2026-11-30)"
-makes 'make deb, of a version that is released' "$other" "$scratch/released" "$release"
-runs 'make dist, of the same commit' 0 any '' make -s -C "$other" --no-print-directory dist DIST="$scratch/dist"
-same_bytes 'make dist, of the same commit' "$scratch/dist/verity-$release.tar.gz" \
-    "$scratch/released/verity_$release.orig.tar.gz"
 runs 'a version that is released comes after what was before' 0 '' '' \
     dpkg --compare-versions "$version-$revision" lt "$release-$revision"
 runs 'what comes after a version that is released' 0 '' '' \
-    dpkg --compare-versions "$release-$revision" lt "$release+$(commit_in "$other")-$revision"
+    dpkg --compare-versions "$release-$revision" lt "$release+$(commit_in "$one")-$revision"
 
+# again: what is made the second time.
+again() {
+    local file
+    cp -r "$one" "$other"
+    sleep 1
+    (
+        umask 077
+        export TZ=Asia/Tokyo LC_ALL=C.UTF-8 GZIP=--rsyncable TAR_OPTIONS=--exclude=*.md BIN=none LIB=none PREFIX=/opt \
+            SUFFIX=x STRIP=yes LIBDIR=/lib64 TARGET=none STATIC=no DEB_BUILD_OPTIONS='nostrip parallel=3' \
+            SOURCE_DATE_EPOCH=1 DEB_HOST_ARCH=i386
+        make -s -C "$other" --no-print-directory deb
+    ) >"$scratch/.made" 2>&1 </dev/null
+    same 'make deb, elsewhere: status' 0 $?
+    for file in $(names "$version"); do same_bytes "make deb, elsewhere: $file" "$debs/$file" "$other/dist/$file"; done
+    headed "$other" "$release (2026-11-30)"
+    makes 'make deb, of a version that is released' "$other" "$scratch/released" "$release"
+    runs 'make dist, of the same commit' 0 any '' make -s -C "$other" --no-print-directory dist DIST="$scratch/dist"
+    same_bytes 'make dist, of the same commit' "$scratch/dist/verity-$release.tar.gz" \
+        "$scratch/released/verity_$release.orig.tar.gz"
+    packages+=("$scratch/released"/*.{deb,dsc})
+}
+
+packages=("$debs"/*.{deb,dsc})
+if [ "${RUNS:-}" = all ]; then again; fi
 runs 'lintian: errors, warnings, and what is overridden' 0 '' '' \
-    lintian --allow-root --no-cfg --show-overrides --fail-on error,warning,override \
-    "$debs"/*.{deb,dsc} "$scratch/released"/*.{deb,dsc}
+    lintian --allow-root --no-cfg --show-overrides --fail-on error,warning,override "${packages[@]}"
 
 # package NAME: the file of a package for the architecture.
 package() {

@@ -1,6 +1,7 @@
 #!/usr/bin/env bash
 # Runs the examples of README.md word for word, in a folder of their own with bin/ linked into it, and compares what
-# they print with what the README shows. An example is a run of indented lines with '$ ' before each command.
+# they print with what the README shows. An example is a run of indented lines with '$ ' before each command. And what
+# the documents name is there, and how long a command takes they all say alike.
 set -u
 cd "$(dirname "$0")/.."
 . tests/lib/checks.sh
@@ -36,4 +37,20 @@ for document in "${documents[@]}"; do
         if [ -e "$(dirname "$document")/$file" ]; then pass; else fail "$file" "$document names it"; fi
     done
 done
+
+# The minutes of a command are the same wherever they are said; `TIME?` stands for what nobody has measured yet.
+number='([0-9]+|TIME\?) minutes?'
+cat README.md CONTRIBUTING.md | tr -s ' \n' '  ' |
+    grep -oP "\bmake [a-z-]+(?![a-z-])(?:(?!\bmake ).){0,120}?\b$number" |
+    sed -E "s/^make ([a-z-]+).*[^0-9]$number\$/\1 \2/" >"$scratch/by_readme"
+make -s help | sed -nE "s/^make ([a-z-]+) +$number.*/\1 \2/p" >"$scratch/by_help"
+sed -nE "s/^\| \`make ([a-z-]+)\` \|.*\| $number.* \|\$/\1 \2/p" docs/TESTS.md >"$scratch/by_table"
+same 'commands of which two places say different minutes' '' \
+    "$(sort -u "$scratch"/by_* | cut -d ' ' -f 1 | uniq -d | paste -sd ' ')"
+same 'commands of docs/TESTS.md whose minutes make help lacks' '' \
+    "$(comm -23 <(cut -d ' ' -f 1 "$scratch/by_table" | sort) <(cut -d ' ' -f 1 "$scratch/by_help" | sort) |
+        paste -sd ' ')"
+same 'rows of docs/TESTS.md with minutes' "$(grep -c '^| `make ' docs/TESTS.md)" "$(wc -l <"$scratch/by_table")"
+same 'commands of README.md with minutes' 'programs run test' \
+    "$(cut -d ' ' -f 1 "$scratch/by_readme" | sort -u | paste -sd ' ')"
 finish

@@ -8,7 +8,8 @@
 # anything failed, or a part ended without that line. A part says by lines 'left out: ..' what it has left out; one that
 # ends with status 77 was left out itself, and its last line says why. If MAY_BE_LEFT_OUT is set, it has patterns, each
 # on a line, and what none of them matches counts as failed if it is left out.
-# Once a minute, or every SAY_EVERY seconds, a line says which parts run, and what each one has printed last.
+# Once a minute, or every SAY_EVERY seconds, a line says which parts run, and what each one has printed last. If COMMAND
+# names a command of docs/TESTS.md, and the run took much longer than that says, a line at the end says so.
 set -u
 cd "$(dirname "$0")/.."
 logs=$(mktemp -d)
@@ -194,7 +195,7 @@ leaves_out() {
 
 # says_what_runs: once a minute, which parts run, and the last line of what each has printed, or its seconds.
 says_what_runs() {
-    local index last minutes=$((SECONDS / 60)) all=''
+    local index last all=''
     if [ $((SECONDS - said)) -lt "${SAY_EVERY:-60}" ] || [ ${#running[@]} -eq 0 ]; then return; fi
     said=$SECONDS
     for index in "${!running[@]}"; do
@@ -202,8 +203,23 @@ says_what_runs() {
         if [ ${#last} -gt 70 ]; then last=${last:0:68}..; fi
         all+=" | ${parts[$index]#env }: ${last:-$((SECONDS - begun[index])) seconds}"
     done
-    if [ $minutes -eq 1 ]; then minutes+=' minute'; else minutes+=' minutes'; fi
-    echo "-- $minutes: ${all# | }"
+    echo "-- $(minutes): ${all# | }"
+}
+
+# minutes: how long the run has taken so far.
+minutes() {
+    local minutes=$((SECONDS / 60))
+    if [ $minutes -eq 1 ]; then echo '1 minute'; else echo "$minutes minutes"; fi
+}
+
+# says_minutes: says it if the run took more than 1.3 times the minutes that docs/TESTS.md says for COMMAND.
+says_minutes() {
+    local stated
+    if [ -z "${COMMAND:-}" ]; then return; fi
+    stated=$(sed -nE "s/^\| \`$COMMAND\` \|.*\| ([0-9]+) minutes?.* \|\$/\1/p" docs/TESTS.md)
+    if [ -n "$stated" ] && [ $((SECONDS * 10)) -gt $((stated * 60 * 13)) ]; then
+        echo "this took $(minutes), where docs/TESTS.md says $stated"
+    fi
 }
 
 set -m
@@ -227,5 +243,6 @@ do
 done
 for line in "${left_out[@]}"; do echo "left out: $line"; done
 for part in "${broken[@]}"; do echo "FAILED: $part"; done
+says_minutes
 echo "$passed passed, $failed failed"
 [ "$failed" -eq 0 ] && [ "$passed" -gt 0 ]

@@ -5,10 +5,10 @@ set -u
 cd "$(dirname "$0")/.."
 . tests/lib/checks.sh
 . tests/lib/background.sh
-unset GATE_LOG MAY_BE_LEFT_OUT SAY_EVERY
+unset COMMAND GATE_LOG MAY_BE_LEFT_OUT RUNS SAY_EVERY SETTINGS
 top=$PWD
 own_path=$PATH
-mkdir -p "$scratch"/here/{.ci,bin,tests/lib}
+mkdir -p "$scratch"/here/{.ci,bin,docs,tests/lib}
 cp .ci/run "$scratch/here/.ci"
 cp tests/{all,gate,run}.sh "$scratch/here/tests"
 cp tests/lib/kinds.sh "$scratch/here/tests/lib"
@@ -228,6 +228,23 @@ minutes() {
     ends 'a line a minute' '4 passed, 0 failed'
 }
 
+# took COMMAND SECONDS LINE..: a run of a command that began so many seconds ago says this of its minutes.
+took() {
+    ran "$1 of $2 seconds" 0 env SECONDS="$2" COMMAND="$1" tests/run.sh ./two
+    ends "$1 of $2 seconds" '== N seconds' "${@:3}" '2 passed, 0 failed'
+}
+
+minutes_of_documents() {
+    printf '| `make %s` | that | %s |\n' test '40 minutes on four cores' check '1 minute' gate 'TIME? minutes' \
+        >docs/TESTS.md
+    took 'make test' 3100
+    took 'make test' 3121 'this took 52 minutes, where docs/TESTS.md says 40'
+    took 'make check' 70
+    took 'make check' 79 'this took 1 minute, where docs/TESTS.md says 1'
+    took 'make gate' 10000
+    took 'make soak' 10000
+}
+
 left_out() {
     part some 'echo "left out: a thing: no tool"' 'echo "2 passed, 0 failed"'
     part all77 'echo "./all77: no device"' 'exit 77'
@@ -288,47 +305,69 @@ gate_log() {
     ran 'another word' 2 tests/all.sh --gate
 }
 
-# All tests, in name: each script but those that are no part is one, once for each processor if it tests programs, and
-# three of the library.
+# parts_of WORD..: which parts tests/all.sh with these words runs: here tests/run.sh prints them, a line each.
+parts_of() {
+    run="tests/all.sh $*"
+    ran "$run" 0 tests/all.sh "$@"
+}
+
+# goes_over SCRIPT FOLDER..: a script is a part over just these programs or libraries.
+goes_over() {
+    same "$run: what $1 goes over" "${*:2}" "$(sed -nE \
+        "s#^(env ((BIN|LIB)=([^ ]*) )?(SEED=[0-9]+ )?)?tests/$1( .*)?\$#\4#p" said | sed 's/^$/bin/' | sort | paste -sd ' ')"
+}
+
+# lacks SCRIPT..: just these scripts are no part.
+lacks() {
+    same "$run: scripts that are no part" "$*" "$(comm -13 <(grep -oE 'tests/[a-z0-9_/]+\.sh' said | sort -u) \
+        <(cd "$top" && printf '%s\n' tests/{,interop/,programs/,library/,bindings/}*.sh | grep -v '/\(all\|run\)\.sh' | sort) |
+        sed 's|.*/||; s|\.sh$||' | paste -sd ' ')"
+}
+
 all_parts() {
-    local script own all
-    mkdir -p tests/{interop,programs,library,bindings}
-    for script in "$top"/tests/{,interop/,programs/,library/,bindings/}*.sh; do
-        case $script in
-        */all.sh | */run.sh) ;;
-        *) part "${script#"$top/"}" 'echo "$0 ${BIN#bin}${LIB:-}" >>ran' 'echo "1 passed, 0 failed"' ;;
-        esac
-    done
+    local script own
+    ln -s "$top"/tests/{interop,programs,library,bindings} tests
+    for script in "$top"/tests/*.sh; do [ -e "tests/${script##*/}" ] || cp "$script" tests; done
+    part tests/run.sh 'printf "%s\n" "$COMMAND in ${RUNS:-few}, ${SETTINGS:-few}" "$@"'
     part processor.sh 'echo x86-64-v3'
     for script in cc aarch64-linux-gnu-gcc qemu-x86_64 qemu-aarch64; do part "bin/$script" 'exit 1'; done
-    ran 'all tests' 0 tests/all.sh
-    sort -u ran | cut -d' ' -f1 | uniq >names
-    printf '%s\n' tests/{,interop/,programs/,library/,bindings/}*.sh | grep -v '/\(all\|run\).sh' | sort >scripts
-    same 'scripts that are no part of all tests' 'kernel library no_gate programs reproducible ' \
-        "$(comm -13 names scripts | sed 's|.*/||; s|\.sh$||' | tr '\n' ' ')"
-    own=$(printf '/imitated/%s ' aarch64 aarch64-static any-Nehalem any-core2duo any-max)
-    for script in programs/format soak search; do
-        all="/any $own/static /x86-64-v2 /x86-64-v3 "
-        # The random runs go over bin/ in place of the programs for one processor.
-        if [ $script != programs/format ]; then all=" /any $own/static "; fi
-        same "which programs $script.sh tests" "$all" "$(sed -n "s|^tests/$script.sh ||p" ran | sort | tr '\n' ' ')"
-    done
-    same 'which programs memory.sh tests' ' /any /imitated/aarch64 ' \
-        "$(sed -n 's|^tests/memory.sh ||p' ran | sort | tr '\n' ' ')"
-    same 'which programs empty_root.sh tests' '/aarch64/static /static ' \
-        "$(sed -n 's|^tests/empty_root.sh ||p' ran | sort | tr '\n' ' ')"
-    same 'which programs processor.sh tests' '/any /static /x86-64-v2 /x86-64-v3 ' \
-        "$(sed -n 's|^tests/processor.sh ||p' ran | sort | tr '\n' ' ')"
+    own=(bin/any bin/imitated/{aarch64,aarch64-static,any-Nehalem,any-core2duo,any-max} bin/static)
+    parts_of
+    same "$run: how it begins" 'make test in few, few|--beside|tests/wrong_bodies.sh|tests/gate.sh|tests/built.sh|--' \
+        "$(head -n 6 said | paste -sd '|')"
+    lacks kernel no_gate reproducible
+    goes_over each_kind.sh "${own[@]}" bin/x86-64-v2
+    for script in programs/format soak search interop/format readme; do goes_over $script.sh bin; done
+    goes_over memory.sh bin bin/imitated/aarch64
+    goes_over processor.sh bin bin/any bin/static bin/x86-64-v2
+    goes_over empty_root.sh bin/aarch64/static bin/static
+    goes_over library/parts.sh lib
+
+    parts_of --release
+    same "$run: how it begins" \
+        'make release-check in all, all|--beside|tests/wrong_bodies.sh --anew|tests/gate.sh|tests/built.sh|--' \
+        "$(head -n 6 said | paste -sd '|')"
+    lacks no_gate reproducible
+    goes_over each_kind.sh "${own[@]}"
+    goes_over programs/format.sh "${own[@]}" bin/x86-64-v2 bin/x86-64-v3
+    for script in soak search; do goes_over $script.sh bin "${own[@]}"; done
+    for script in interop/format readme; do goes_over $script.sh bin/x86-64-v2 bin/x86-64-v3; done
+    goes_over memory.sh bin bin/any bin/imitated/aarch64
+    goes_over empty_root.sh bin/aarch64/static bin/static
     for script in debian_images feeding header parts; do
-        same "for which processors $script.sh tests the library" 'lib lib/glibc-hwcaps/x86-64-v3 ' \
-            "$(sed -n "s|^tests/library/$script.sh ||p" ran | sort | tr '\n' ' ')"
+        goes_over library/$script.sh lib lib/glibc-hwcaps/x86-64-v3
     done
-    same 'the first parts' 'tests/gate.sh tests/built.sh ' \
-        "$(sed -nE 's/^== [0-9]+ of [0-9]+: (tests\/(gate|built).*)/\1/p' said | tr '\n' ' ')"
-    same 'each part has passed' "$(wc -l <ran) passed, 0 failed" "$(tail -n 1 said)"
-    cp "$top/tests/no_gate.sh" tests
-    ran 'all tests without the gate' 0 tests/all.sh --without-gate
-    same 'all tests without the gate: what is left out' 1 "$(grep -c '^left out: the gate: ' said)"
+
+    parts_of --without-gate
+    same "$run: how it begins" 'make check in few, few|tests/no_gate.sh|--' "$(head -n 3 said | paste -sd '|')"
+    goes_over programs/format.sh bin
+    goes_over each_kind.sh
+    part processor.sh 'echo x86-64-v2'
+    parts_of
+    goes_over each_kind.sh "${own[@]}"
+    cp "$top/tests/run.sh" tests
+    ran 'no gate' 0 tests/run.sh tests/no_gate.sh -- ./one
+    same 'no gate: what is left out' 1 "$(grep -c '^left out: the gate: ' said)"
 }
 
 # Which kinds of programs there are depends on the compilers and on qemu.
@@ -461,6 +500,7 @@ beside
 beside_fails
 signals
 minutes
+minutes_of_documents
 left_out
 gate
 gate_log

@@ -2,8 +2,9 @@
 # Random command lines, run by both programs and by Debian's: fails on a difference that no row of docs/DIFFERENCES.md
 # covers. The code is in tests/search/; tests/interop/differences.sh checks each row by itself.
 #
-#   tests/search.sh                a minute of the cases of seed 1, after it is seen that rows are missed
-#   tests/search.sh SEED=N SECONDS=N [CASES=N] [WORKERS=N] [DOCUMENT=FILE]
+#   tests/search.sh                it is seen that rows are missed; then 20 seconds of cases, or with RUNS=all ten
+#                                  minutes, of a seed that is drawn and printed
+#   tests/search.sh SEED=N SECONDS=N [CASES=N] [FAILURES=N] [WORKERS=N] [DOCUMENT=FILE]
 #   tests/search.sh SEED=N CASE=N  shows one case, as a failed one is printed
 set -u
 cd "$(dirname "$0")/.."
@@ -24,7 +25,8 @@ fi
 # lacks TEXT [SEED]: without the row that begins with this text the search fails, over cases that need it.
 lacks() {
     grep -vF "| $1 |" docs/DIFFERENCES.md >"$scratch/document"
-    tests/search/search.py SEED="${2:-1}" SECONDS=300 CASES=1200 DOCUMENT="$scratch/document" >"$scratch/said"
+    tests/search/search.py SEED="${2:-1}" SECONDS=300 CASES=1200 FAILURES=1 DOCUMENT="$scratch/document" \
+        >"$scratch/said"
     same "without the row '$1': status" 1 $?
     if grep -q '^FAILED .*: no row covers the ' "$scratch/said"; then
         pass
@@ -43,7 +45,9 @@ lacks '`digest` of a pipe'
 lacks 'a character device, such as `/dev/null` or `/dev/zero`, as DATA, or as HASH of `dump` or `verify`'
 lacks '`verify` without a superblock: a hash area that overlaps the covered data in one file, under any names' 11
 lacks 'a superblock of more data than there can be' 13
-tests/search/search.py SEED=1 SECONDS=60 | tee "$scratch/said"
+seconds=20
+if [ "${RUNS:-}" = all ]; then seconds=600; fi
+tests/search/search.py SEED= SECONDS=$seconds | tee "$scratch/said"
 if [[ $(tail -n 1 "$scratch/said") =~ ^([0-9]+)\ passed,\ ([0-9]+)\ failed$ ]]; then
     checked=$((checked + BASH_REMATCH[1] + BASH_REMATCH[2]))
     failed=$((failed + BASH_REMATCH[2]))

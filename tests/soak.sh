@@ -3,7 +3,8 @@
 # Each run is compared with a second reading of docs/DEFINITIONS.md in Python, and one in eight with Debian's programs
 # too, as far as docs/DIFFERENCES.md lets them agree. The code is in tests/soak/.
 #
-#   tests/soak.sh                  a minute of the cases of seed 1, after the self-test
+#   tests/soak.sh                  the self-test, and 20 seconds of cases, or with RUNS=all ten minutes, of a seed that
+#                                  is drawn and printed
 #   tests/soak.sh SEED=N SECONDS=N [CASES=N] [WORKERS=N]
 #   tests/soak.sh SEED=N CASE=N    repeats one case, as a failed one is printed
 #   tests/soak.sh --self-test      runs faulty programs, and passes if each is seen
@@ -25,4 +26,6 @@ if ! tests/soak/soak.py --self-test; then
     finish
     exit 1
 fi
-tests/soak/soak.py SEED=1 SECONDS=60
+seconds=20
+if [ "${RUNS:-}" = all ]; then seconds=600; fi
+tests/soak/soak.py SEED= SECONDS=$seconds

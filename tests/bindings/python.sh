@@ -1,8 +1,8 @@
 #!/usr/bin/env bash
 # The binding for Python, with the shared library of LIB: its own tests, its types by mypy, the examples of its page, a
 # copied tree of files and random settings, images and changed bytes beside Debian's programs, and what is installed, by
-# `make install-python` and by pip. PYTHON=PROGRAM takes another interpreter, SEED=N draws other settings, and HUGE=yes
-# adds more than 4 GiB that are hashed at once.
+# `make install-python` and by pip. PYTHON=PROGRAM takes another interpreter, SEED=N draws other settings, RUNS=all four
+# times as many of them, and HUGE=yes adds more than 4 GiB that are hashed at once.
 set -u
 cd "$(dirname "$0")/../.."
 . tests/lib/checks.sh
@@ -28,7 +28,7 @@ left >"$scratch/left"
 
 adds "$binding/tests" "$PYTHON" $binding/tests
 if [ "${HUGE:-}" = yes ]; then adds $binding/tests/huge.py "$PYTHON" $binding/tests/huge.py; fi
-adds 'beside Debian' "$PYTHON" tests/bindings/beside_debian.py "$scratch" "$SEED" 60 40
+adds 'beside Debian' "$PYTHON" tests/bindings/beside_debian.py "$scratch" "$SEED" "$(few 15 60)" "$(few 10 40)"
 
 # ------------------------------------------------ how the library is found ------------------------------------------
 

@@ -2,6 +2,12 @@
 # over random settings, other trees, and random calls. Sourced after tests/lib/c_programs.sh.
 
 SEED=${SEED:-1}
+
+# few FEW ALL: prints the first of two numbers of random runs, or of sizes, and with RUNS=all the second.
+few() {
+    if [ "${RUNS:-}" = all ]; then echo "$2"; else echo "$1"; fi
+}
+
 # The block sizes of images of dm-verity.
 verity_sizes=(512 512 1024 2048 4096 8192)
 

@@ -2,8 +2,8 @@
 # The libraries for 64-bit ARM, in an emulator: the tests of images, refused parameters and superblocks, random calls,
 # and trees that are built of pieces and of parts, in all of which they leave the register x18 alone; and that a call
 # keeps what include/verity.h and verity(3) say of registers and stack. Then trees that are stored after each call go on
-# by another of the libraries, or by that for x86-64. SEED=N draws other settings, LIB=FOLDER and ARM_LIB=FOLDER take
-# the libraries of other folders.
+# by another of the libraries, or by that for x86-64. SEED=N draws other settings, RUNS=all four times as many of them,
+# LIB=FOLDER and ARM_LIB=FOLDER take the libraries of other folders.
 set -u
 cd "$(dirname "$0")/../.."
 . tests/lib/checks.sh
@@ -87,8 +87,8 @@ for library in libverity.a libverity-strict-align.a; do
     fi
 done
 
-# tries_library LIBRARY PART: the tests of a library. Images, random calls and feedings are one in PART of those of the
-# first one. The programs stand in the scratch folder, in one of the library's name.
+# tries_library LIBRARY PART: the tests of a library, with one in PART of all images, random calls and feedings. The
+# programs stand in the scratch folder, in one of the library's name.
 tries_library() {
     local library=$ARM_LIB/$1 part=$2 built=$scratch/$1
     local static=(aarch64-linux-gnu-gcc -static -O2 "${platform[@]}" tests/library/chains.c "${feeding_sources[@]}")
@@ -124,7 +124,7 @@ tries_library() {
     fi
 }
 draws_data
-tries_library libverity.a 1
+tries_library libverity.a "$(few 4 1)"
 tries_library libverity-strict-align.a 4
 
 # A tree goes on by another library than the one by which it was stored: each of its calls is made by the next program.
@@ -157,6 +157,6 @@ takes_turns() {
         same "how many programs trees went through, $1" 3 "$(sort -u "$scratch/turns" | wc -l)"
     fi
 }
-takes_turns stored 2 $((1 << 17))
+takes_turns stored "$(few 1 2)" $((1 << 17))
 takes_turns stored_parts 1 $((1 << 16))
 finish

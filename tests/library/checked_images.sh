@@ -2,8 +2,8 @@
 # Two examples of the library for C over images of Debian's veritysetup, right and changed ones, each also compiled with
 # AddressSanitizer and UndefinedBehaviorSanitizer. examples/checked_blocks.c is called by checked_blocks.c of this
 # folder, over devices that change, fail and lie. examples/check_image.c names the first difference: the same as this
-# project's veritysetup in BIN, if that is there. SEED=N draws other changes, LIB=FOLDER takes the library of another
-# folder.
+# project's veritysetup in BIN, if that is there. SEED=N draws other changes, RUNS=all four times as many, LIB=FOLDER
+# takes the library of another folder.
 set -u
 cd "$(dirname "$0")/../.."
 . tests/lib/checks.sh
@@ -209,7 +209,7 @@ if build examples/check_image.c gcc; then
     deep_tree
     refused_words
     other_trees
-    random_changes 60
+    random_changes "$(few 15 60)"
 fi
 if build examples/check_image.c gcc "${sanitizers[@]}"; then
     deep_tree

@@ -2,7 +2,8 @@
 # The library from C, over images that Debian's veritysetup and fsverity make by random settings: superblock, levels,
 # places, and each data block by its path and link by link; and that each change is refused, with the status and the
 # level that follow. Then each function with each of its faults: the status of each, and their order. With the static
-# library and with the shared one. SEED=N draws other settings, LIB=FOLDER takes the library of another folder.
+# library and with the shared one. SEED=N draws other settings, RUNS=all five times as many of them, LIB=FOLDER takes
+# the library of another folder.
 set -u
 cd "$(dirname "$0")/../.."
 . tests/lib/checks.sh
@@ -22,6 +23,6 @@ for program in refused debian_images; do
 done
 for library in static shared; do
     adds "refused, $library" "$scratch/refused.$library"
-    tries_images "$scratch/debian_images.$library" 40 20 $((1 << 24))
+    tries_images "$scratch/debian_images.$library" "$(few 8 40)" "$(few 4 20)" $((1 << 24))
 done
 finish

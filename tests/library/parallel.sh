@@ -2,7 +2,7 @@
 # The examples that build a tree from parts, beside images of Debian's veritysetup: examples/parallel_format.c by
 # threads, and examples/parts/ by processes that share nothing but files, some of which are killed. A parallel check
 # names the first difference: the same as this project's veritysetup in BIN, if that is there. SEED=N draws other
-# changes, LIB=FOLDER takes the library of another folder.
+# changes, RUNS=all four times as many, LIB=FOLDER takes the library of another folder.
 set -u
 cd "$(dirname "$0")/../.."
 . tests/lib/checks.sh
@@ -131,7 +131,7 @@ if build examples/parallel_format.c gcc; then
     parallel_format=$scratch/parallel_format
     same_images
     named_differences
-    random_changes 40
+    random_changes "$(few 10 40)"
     refused_words
 fi
 if build examples/parallel_format.c gcc "${sanitizers[@]}"; then

@@ -3,7 +3,7 @@
 # files beside Debian's veritysetup and fsverity, each from the parts of each level, which are built in several orders
 # and stored after any call, also with a process for each call. Mistakes that a caller could make are noticed. With the
 # static library, with the shared one and under sanitizers. And the lines of include/verity.h for it. SEED=N draws other
-# settings, LIB=FOLDER takes the library of another folder.
+# settings, RUNS=all more and larger ones, LIB=FOLDER takes the library of another folder.
 set -u
 cd "$(dirname "$0")/../.."
 . tests/lib/checks.sh
@@ -26,29 +26,30 @@ large_parts() {
 }
 
 if compiles "$scratch/static" gcc -O2 "${sources[@]}" "$LIB/libverity.a"; then
-    builds_parts 'all settings' "$scratch/static" $((1 << 16)) 1024
+    builds_parts 'all settings' "$scratch/static" "$(few $((1 << 14)) $((1 << 16)))" "$(few 256 1024)"
     grep ': [0-9]*$' "$scratch/.ran" | sed 's/^/    /'
     breaks_parts 'mistakes of the caller' "$scratch/static"
     grep ': [0-9]*$' "$scratch/.ran" | sed 's/^/    /'
     large_parts 'large blocks' "$scratch/static"
-    feeds_images "$scratch/static" 16 16 $((1 << 18))
+    feeds_images "$scratch/static" "$(few 4 16)" "$(few 4 16)" $((1 << 18))
 fi
 if compiles "$scratch/stored_parts" gcc -O2 tests/library/stored_parts.c "${feeding_sources[@]}" \
     "$LIB/libverity.a"; then
-    stores_images "$scratch/stored_parts" 3 3 $((1 << 16))
+    stores_images "$scratch/stored_parts" "$(few 1 3)" "$(few 1 3)" $((1 << 16))
 fi
 if compiles "$scratch/with_shared" gcc -O2 "${sources[@]}" "${shared[@]}"; then
-    builds_parts 'all settings, shared' "$scratch/with_shared" $((1 << 14)) 256
+    builds_parts 'all settings, shared' "$scratch/with_shared" "$(few $((1 << 12)) $((1 << 14)))" "$(few 64 256)"
     large_parts 'large blocks, shared' "$scratch/with_shared"
-    feeds_images "$scratch/with_shared" 4 4 $((1 << 17))
+    feeds_images "$scratch/with_shared" "$(few 1 4)" "$(few 1 4)" $((1 << 17))
 fi
 export ASAN_OPTIONS=detect_leaks=0 UBSAN_OPTIONS=print_stacktrace=1
 if ! has_sanitizers; then
     echo "left out: under sanitizers: $no_sanitizers"
 elif compiles "$scratch/sanitized" gcc "${sanitizers[@]}" "${sources[@]}" "$LIB/libverity.a"; then
-    builds_parts 'all settings, under sanitizers' "$scratch/sanitized" $((1 << 13)) 256
+    builds_parts 'all settings, under sanitizers' "$scratch/sanitized" "$(few $((1 << 12)) $((1 << 13)))" \
+        "$(few 64 256)"
     breaks_parts 'mistakes of the caller, under sanitizers' "$scratch/sanitized"
-    feeds_images "$scratch/sanitized" 3 3 $((1 << 17))
+    feeds_images "$scratch/sanitized" "$(few 1 3)" "$(few 1 3)" $((1 << 17))
 fi
 
 # header_loop NAME STRUCT: the header's loop, with another function.

@@ -1,9 +1,10 @@
 #!/usr/bin/env bash
-# The library on the first x86-64 processor, which qemu imitates: what is built for x86-64 builds trees and checks
-# blocks there, static and shared, and glibc's loader passes over the shared one for x86-64-v3. What is built for
-# x86-64-v3 is seen to end there by an illegal instruction. And for which processors `make library` and `make programs`
-# build, and what the former does without a compiler that links. SEED=N draws other settings and input, LIB=FOLDER takes the library of another
-# folder.
+# The library on other processors, by each hash function over all settings, and by random calls. On the first x86-64
+# processor, which qemu imitates, what is built for x86-64 builds trees and checks blocks, static and shared, and
+# glibc's loader passes over the shared one for x86-64-v3. What is built for x86-64-v3 does so on this processor, if it
+# has all of that, and is seen to end on the first one by an illegal instruction. And for which processors
+# `make library` and `make programs` build, and what the former does without a compiler that links. SEED=N draws other
+# settings and input, LIB=FOLDER takes the library of another folder.
 set -u
 cd "$(dirname "$0")/../.."
 . tests/lib/checks.sh
@@ -28,15 +29,20 @@ draws_data
 # A program that ends by a signal leaves no file.
 ulimit -c 0
 
-# runs_there NAME WORD..: two programs, built with a library, run on the first processor.
-runs_there() {
-    local name=$1
-    shift
+# This one.
+# shellcheck disable=SC2034
+here=()
+
+# runs_on first|here NAME WORD..: two programs, built with a library, run on that processor.
+runs_on() {
+    local -n processor=$1
+    local name=$2
+    shift 2
     if compiles "$scratch/feeding" gcc -O2 "${feeding[@]}" "$@"; then
-        feeds_settings "$name" "$scratch/feeding" $((1 << 12)) $((1 << 9)) "${first[@]}"
+        feeds_settings "$name" "$scratch/feeding" $((1 << 12)) $((1 << 9)) "${processor[@]}"
     fi
     if compiles "$scratch/fuzz" gcc -O2 tests/library/{fuzz,chains}.c "${feeding_sources[@]}" "$@"; then
-        tries_random "$scratch/fuzz" 20000 "${first[@]}"
+        tries_random "$scratch/fuzz" 20000 "${processor[@]}"
     fi
 }
 
@@ -53,11 +59,17 @@ ends_there() {
 
 cpu=$(head -n 1 "$LIB/libverity.a.made")
 if [ "$cpu" = x86-64 ]; then
-    runs_there static "$LIB/libverity.a"
+    runs_on first static "$LIB/libverity.a"
 else
     echo "left out: the static library on the first processor: it is built for $cpu"
 fi
-runs_there shared "$LIB/libverity.so.2" "-Wl,-rpath,$(realpath "$LIB")"
+runs_on first shared "$LIB/libverity.so.2" "-Wl,-rpath,$(realpath "$LIB")"
+if [ "$(./processor.sh)" = x86-64-v3 ]; then
+    runs_on here 'static, for x86-64-v3' "$for_v3/libverity.a"
+    runs_on here 'shared, for x86-64-v3' "$for_v3/libverity.so.2" "-Wl,-rpath,$(realpath "$for_v3")"
+else
+    echo "left out: the library for x86-64-v3: this processor doesn't have all of it"
+fi
 ends_there 'static, for x86-64-v3' "$for_v3/libverity.a"
 ends_there 'shared, for x86-64-v3' "$for_v3/libverity.so.2" "-Wl,-rpath,$(realpath "$for_v3")"
 # shown FILE: the names that a shared library shows, with their versions, and its soname.

@@ -2,7 +2,7 @@
 # The tests of images and the random calls, compiled with AddressSanitizer and UndefinedBehaviorSanitizer: no call reads
 # or writes outside of its buffers, since these have just the length that is said, and stand at memory that can't be
 # read or come from a watched malloc. That the watching sees such a read is shown first. SEED=N draws other settings,
-# LIB=FOLDER takes the library of another folder.
+# RUNS=all more of them and ten times as many calls, LIB=FOLDER takes the library of another folder.
 set -u
 cd "$(dirname "$0")/../.."
 . tests/lib/checks.sh
@@ -57,9 +57,9 @@ rest=("${sanitizers[@]}" tests/library/chains.c "${feeding_sources[@]}" "$LIB/li
 if compiles "$scratch/refused" gcc tests/library/refused.c "${rest[@]}"; then adds 'refused' "$scratch/refused"; fi
 if compiles "$scratch/debian_images" gcc tests/library/debian_images.c "${rest[@]}"; then
     draws_data
-    tries_images "$scratch/debian_images" 10 6 $((1 << 21))
+    tries_images "$scratch/debian_images" "$(few 3 10)" "$(few 2 6)" $((1 << 21))
 fi
 if compiles "$scratch/fuzz" gcc tests/library/fuzz.c "${rest[@]}"; then
-    tries_random "$scratch/fuzz" 300000
+    tries_random "$scratch/fuzz" "$(few 30000 300000)"
 fi
 finish

@@ -2,9 +2,10 @@
 """Runs both programs and Debian's on random command lines, and fails on a difference that no row of docs/DIFFERENCES.md
 covers.
 
-search.py [SEED=N] [SECONDS=N] [CASES=N] [WORKERS=N] [DOCUMENT=FILE] goes over cases 0, 1, .. until the time or the
-number is reached; search.py SEED=N CASE=N shows one. DOCUMENT stands in place of docs/DIFFERENCES.md. Seed and number
-of a case determine everything in it. The last line is 'N passed, M failed'.
+search.py [SEED=N] [SECONDS=N] [CASES=N] [FAILURES=N] [WORKERS=N] [DOCUMENT=FILE] goes over cases 0, 1, .. until the
+time or the number is reached, or in a worker so many have failed; search.py SEED=N CASE=N shows one. DOCUMENT stands
+in place of docs/DIFFERENCES.md. Seed and number of a case determine everything in it. The last line is
+'N passed, M failed'.
 """
 
 import io
@@ -192,7 +193,7 @@ def work(options, programs, folder, first, rows, results):
     counts, needed = Counter(), Counter()
     end = time.monotonic() + options["SECONDS"]
     for which in range(first, options["CASES"], options["WORKERS"]):
-        if time.monotonic() > end:
+        if time.monotonic() > end or counts[FAILED] >= options["FAILURES"]:
             break
         counts["cases"] += 1
         try:
@@ -239,6 +240,7 @@ def stated(document):
 
 def main():
     options = {"SEED": 1, "SECONDS": 60, "CASES": 10**9, "WORKERS": min(2, os.cpu_count() or 1), "CASE": None}
+    options["FAILURES"] = 10**9
     document = os.path.join(HERE, "..", "..", "docs", "DIFFERENCES.md")
     for word in sys.argv[1:]:
         name, _, value = word.partition("=")
