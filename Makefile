@@ -79,8 +79,8 @@ check: programs libraries
 release-check:
 	tests/all.sh --release
 
-# The gate: every proof from nothing, the tests of the crates, the programs' stored runs, and beside it each wrong body,
-# which the prover has to refuse or a test has to catch.
+# The gate: every proof from nothing, the tests of the crates, the programs' stored runs, and after it the wrong bodies
+# without a verdict that holds and a sample of the others, which the prover has to refuse or a test has to catch.
 gate:
 	tests/all.sh --gate-alone
 
@@ -193,8 +193,8 @@ help:
 	@echo 'make test            TIME? minutes all tests: gate, the programs as a user runs them, documents, comparisons'
 	@echo 'make check           TIME? minutes + all tests but the gate'
 	@echo 'make release-check   TIME? minutes all tests in full, as before a release'
-	@echo 'make gate            60 minutes    every proof from nothing, tests of the crates, wrong bodies to be refused'
-	@echo 'make wrong-bodies    40 minutes +  sees each wrong body refused in its own function [CRATE, ANEW]'
+	@echo 'make gate            TIME? minutes every proof from nothing, tests of the crates, wrong bodies to be refused'
+	@echo 'make wrong-bodies    TIME? minutes + sees wrong bodies refused, and writes their verdicts [CRATE, ANEW]'
 	@echo 'make check-programs  1 minute +    runs the programs as a user would'
 	@echo 'make check-library   TIME? minutes + calls the library from C, and runs its examples'
 	@echo 'make out-of-memory   7 minutes +   refuses each request for memory in turn'

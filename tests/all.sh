@@ -1,14 +1,14 @@
 #!/usr/bin/env bash
 # All tests: the gate, what it built, then the programs, run as a user runs them, the examples of the documents, and the
-# comparisons with Debian's programs, if these are installed. Beside all of this each wrong body is tried. The tests go
-# over the programs in bin/, which are those for this processor; over each other kind of programs goes what can differ
-# there. The library for C is called from C, and its examples run. All that comes after the gate and what it built runs
-# side by side. Random runs are others each time: their seed is in the lines of the parts, or they print it. The last
-# line is 'N passed, M failed', over all parts.
+# comparisons with Debian's programs, if these are installed. Wrong bodies are tried, those without a verdict that holds
+# and a sample of the others. The tests go over the programs in bin/, which are those for this processor; over each other
+# kind of programs goes what can differ there. The library for C is called from C, and its examples run. All that comes
+# after the gate and what it built runs side by side. Random runs are others each time: their seed is in the lines of the
+# parts, or they print it. The last line is 'N passed, M failed', over all parts.
 # With --without-gate the programs that are in bin/ are tested, and the output says that the gate was left out. With
-# --gate-alone the gate runs, and beside it the wrong bodies. With --release all is tried in full, as before a release:
-# also wrong bodies that have passed, each kind of programs and libraries by all tests, every setting, every request for
-# memory, twenty times as many random runs, and the kernel.
+# --gate-alone the gate runs, and after it the wrong bodies. With --release all is tried in full, as before a release:
+# each wrong body, each kind of programs and libraries by all tests, every setting, every request for memory, twenty
+# times as many random runs, and the kernel.
 set -u
 cd "$(dirname "$0")/.."
 . tests/lib/kinds.sh
@@ -85,9 +85,14 @@ add_tests() {
 
 # COMMAND is what docs/TESTS.md says the minutes of.
 export COMMAND='make test'
-parts=(--beside tests/wrong_bodies.sh tests/gate.sh)
+# What the wrong bodies rest on, the gate has just built.
+bodies="env GATE=. SEED=$seed tests/wrong_bodies.sh"
+parts=(tests/gate.sh)
 case ${1:-} in
---gate-alone) COMMAND='make gate' ;;
+--gate-alone)
+    COMMAND='make gate'
+    parts+=(-- "$bodies")
+    ;;
 --without-gate)
     COMMAND='make check'
     parts=(tests/no_gate.sh --)
@@ -97,7 +102,7 @@ case ${1:-} in
     COMMAND='make release-check'
     export RUNS=all SETTINGS=all
     release=yes
-    parts=(--beside 'tests/wrong_bodies.sh --anew' tests/gate.sh tests/built.sh --)
+    parts+=(tests/built.sh -- "$bodies")
     builds=(bin/x86-64-v2)
     mapfile -t kinds < <(kinds)
     if runs_v3; then
@@ -107,7 +112,7 @@ case ${1:-} in
     add_tests
     ;;
 '')
-    parts+=(tests/built.sh --)
+    parts+=(tests/built.sh -- "$bodies")
     mapfile -t kinds < <(kinds)
     if runs_v3; then kinds=(bin/x86-64-v2 "${kinds[@]}"); fi
     add_tests
@@ -118,11 +123,7 @@ case ${1:-} in
     ;;
 esac
 
-# What the gate says goes to a file, which the wrong bodies follow. A signal to this script ends the whole run.
-folder=$(mktemp -d)
-trap 'rm -rf "$folder"' EXIT
-export GATE_LOG=$folder/gate.log
-: >"$GATE_LOG"
+# A signal to this script ends the whole run.
 env --default-signal=INT,QUIT BIN=bin tests/run.sh "${parts[@]}" &
 trap 'kill "$!"; wait; exit 130' INT
 trap 'kill "$!"; wait; exit 143' TERM

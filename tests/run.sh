@@ -1,9 +1,8 @@
 #!/usr/bin/env bash
-# tests/run.sh [--beside PART].. PART.. [-- PART..]: runs each part, a command line in one argument, and shows its
+# tests/run.sh PART.. [-- PART..]: runs each part, a command line in one argument, and shows its
 # output under a line that says how far the run is. The first parts run one after another, and their output is shown as
 # it comes. Parts after `--` run side by side, as many at once as there are processors, and each one's output is shown
-# whole, in the order of the parts. A part after --beside begins with the first, and runs beside all others, at a lower
-# priority; its output is shown whole once it has ended.
+# whole, in the order of the parts.
 # Each part has to end with a line 'N passed, M failed', and so does the whole run, with the sums. The status is 1 if
 # anything failed, or a part ended without that line. A part says by lines 'left out: ..' what it has left out; one that
 # ends with status 77 was left out itself, and its last line says why. If MAY_BE_LEFT_OUT is set, it has patterns, each
@@ -35,29 +34,23 @@ failed=0
 left_out=()
 broken=()
 
-# The parts: up to the number `beside` those beside all others, and up to `alone` those that run one after another.
+# The parts: up to the number `alone` those that run one after another.
 parts=()
-while [ "${1:-}" = --beside ]; do
-    parts+=("$2")
-    shift 2
-done
-beside=${#parts[@]}
-alone=$((beside + $#))
+alone=$#
 for word in "$@"; do
     if [ "$word" = -- ]; then alone=${#parts[@]}; else parts+=("$word"); fi
 done
 
-# run INDEX [WORD..]: runs a part, behind these words. Its status, its seconds and those of processor time go to a file,
-# which is there once they are in it, and then a line to the pipe that `waits` reads. The line says no more than that a
-# part has ended: a `read` whose time is over may have taken half of a number.
+# run INDEX: runs a part. Its status, its seconds and those of processor time go to a file, which is there once they are
+# in it, and then a line to the pipe that `waits` reads. The line says no more than that a part has ended: a `read` whose
+# time is over may have taken half of a number.
 run() {
-    local index=$1 status=0
-    shift
+    local status=0
     # shellcheck disable=SC2086
-    "$@" ${parts[$index]} 4>&- || status=$?
-    times >"$logs/$index.times"
-    echo "$status $((SECONDS - begun[index])) $(processor_seconds "$logs/$index.times")" >"$logs/$index.ends"
-    mv "$logs/$index.ends" "$logs/$index.ended"
+    ${parts[$1]} 4>&- || status=$?
+    times >"$logs/$1.times"
+    echo "$status $((SECONDS - begun[$1])) $(processor_seconds "$logs/$1.times")" >"$logs/$1.ends"
+    mv "$logs/$1.ends" "$logs/$1.ended"
     echo >&4
 }
 
@@ -66,29 +59,21 @@ processor_seconds() {
     tail -n 1 "$1" | tr ms '  ' | awk '{printf "%.0f\n", 60 * ($1 + $3) + $2 + $4}'
 }
 
-# begins INDEX [WORD..]: begins a part in the background, as a group of processes, so that one signal ends all of it.
-begins() {
-    begun[$1]=$SECONDS
-    : >"$logs/$1"
-    run "$@" >>"$logs/$1" 2>&1 </dev/null &
-    running[$1]=$!
-}
-
-# begins_next: begins the parts whose turn it is.
+# begins_next: begins the parts whose turn it is, in the background, each as a group of processes, so that one signal
+# ends all of it.
 begins_next() {
     while [ "$next" -lt "${#parts[@]}" ] && has_place; do
-        begins "$next"
+        begun[next]=$SECONDS
+        : >"$logs/$next"
+        run "$next" >>"$logs/$next" 2>&1 </dev/null &
+        running[next]=$!
         next=$((next + 1))
     done
 }
 
-# has_place: whether the next part may begin. Those beside all others take no place.
+# has_place: whether the next part may begin.
 has_place() {
-    local index taken=0
-    for index in "${!running[@]}"; do
-        if [ "$index" -ge "$beside" ]; then taken=$((taken + 1)); fi
-    done
-    if [ "$next" -le "$alone" ]; then [ "$taken" -eq 0 ]; else [ "$taken" -lt "$processors" ]; fi
+    if [ "$next" -le "$alone" ]; then [ ${#running[@]} -eq 0 ]; else [ ${#running[@]} -lt "$processors" ]; fi
 }
 
 # waits: until a part ends, for a second at most. What was killed has said nothing.
@@ -102,19 +87,11 @@ waits() {
 
 # shows: shows what can be shown by now, in the order of the parts.
 shows() {
-    while shows_beside && [ "$shown" -lt "$next" ]; do
+    while [ "$shown" -lt "$next" ]; do
         if [ "$shown" -lt "$alone" ]; then shows_lines; fi
         if [ -n "${running[$shown]:-}" ]; then return; fi
         if [ "$shown" -lt "$alone" ]; then ends_lines; else shows_whole "$shown"; fi
         shown=$((shown + 1))
-    done
-}
-
-# shows_beside: shows those beside all others that have ended, if no other part is half shown.
-shows_beside() {
-    local index
-    for ((index = 0; index < beside && half_shown == 0; index++)); do
-        if [ -z "${running[$index]:-}${counted[$index]:-}" ]; then shows_whole "$index"; fi
     done
 }
 
@@ -150,14 +127,12 @@ ends_lines() {
 
 # title INDEX: the line over a part's output.
 title() {
-    titles=$((titles + 1))
-    echo "== $titles of ${#parts[@]}: ${parts[$1]}"
+    echo "== $(($1 + 1)) of ${#parts[@]}: ${parts[$1]}"
 }
 
 # count INDEX: adds what the last line of a part's output says, and keeps the lines of what it left out.
 count() {
     local part=${parts[$1]} status=137 seconds=0 used=0 last good bad line
-    counted[$1]=yes
     # What was killed has not written its status.
     if [ -e "$logs/$1.ended" ]; then read -r status seconds used <"$logs/$1.ended"; fi
     echo "== $seconds seconds, $used of processor time"
@@ -226,17 +201,14 @@ set -m
 mkfifo "$logs/ended"
 exec 4<>"$logs/ended"
 begun=()
-counted=()
-next=$beside
-shown=$beside
+next=0
+shown=0
 half_shown=0
-titles=0
 said=0
-for ((index = 0; index < beside; index++)); do begins "$index" nice -n 10; done
 while
     begins_next
     shows
-    [ ${#counted[@]} -lt ${#parts[@]} ]
+    [ "$shown" -lt ${#parts[@]} ]
 do
     says_what_runs
     waits

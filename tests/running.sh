@@ -113,54 +113,6 @@ as_it_comes() {
     rm -f ./*.made
 }
 
-beside() {
-    # It begins with the first part, the last begins without waiting for it, and it takes no place of a processor.
-    processors 1
-    part beside ': >begun.made' 'awaits last.made' 'sleep 0.5' 'echo beside' 'echo "5 passed, 0 failed"'
-    part first 'awaits begun.made' 'echo first' 'echo "1 passed, 0 failed"'
-    part last ': >last.made' 'echo last' 'echo "1 passed, 0 failed"'
-    ran 'a part beside all others' 0 tests/run.sh --beside ./beside ./first -- ./two ./last
-    says 'a part beside all others' '== 1 of 4: ./first
-first
-1 passed, 0 failed
-== N seconds
-== 2 of 4: ./two
-two
-2 passed, 0 failed
-== N seconds
-== 3 of 4: ./last
-last
-1 passed, 0 failed
-== N seconds
-== 4 of 4: ./beside
-beside
-5 passed, 0 failed
-== N seconds
-9 passed, 0 failed'
-    processors 2
-    rm -f ./*.made
-    # One that ends early is shown once no other part is half shown.
-    part early 'echo early' 'echo "5 passed, 0 failed"' ': >early.made'
-    part long 'echo begins' 'awaits early.made' 'sleep 2' 'echo goes on' 'echo "1 passed, 0 failed"'
-    part waiting 'awaits early.made' 'echo "1 passed, 0 failed"'
-    ran 'one that ends early' 0 tests/run.sh --beside ./early ./long ./two
-    same 'one that ends early' '== 1 of 3: ./long|begins|goes on|== 2 of 3: ./early|early|== 3 of 3: ./two|two|' \
-        "$(grep -v 'passed\|seconds' said | tr '\n' '|')"
-    rm -f ./*.made
-}
-
-beside_fails() {
-    ran 'two beside all others, and one fails' 1 tests/run.sh --beside ./bad --beside ./two ./one -- ./one
-    ends 'two beside all others' 'FAILED: ./bad (status 1)' '5 passed, 2 failed'
-    ran 'one beside all others is killed' 1 tests/run.sh --beside ./killed ./one
-    ends 'one beside all others is killed' 'FAILED: ./killed (status 137)' '1 passed, 1 failed'
-    ran 'nothing beside it' 0 tests/run.sh --beside ./two
-    says 'nothing beside it' $'== 1 of 1: ./two\ntwo\n2 passed, 0 failed\n== N seconds\n2 passed, 0 failed'
-    part priority 'echo "at $(nice)"' 'echo "1 passed, 0 failed"'
-    ran 'priorities' 0 tests/run.sh --beside ./priority ./priority -- ./priority
-    same 'priorities' "$(printf 'at %s\n' "$(nice)" "$(nice)" "$(nice -n 10 nice)")" "$(grep '^at ' said | sort -k2n)"
-}
-
 # has_ended PART: a part that wrote its number has ended, in ten seconds. What nobody has waited for yet has ended too.
 has_ended() {
     local tries state
@@ -195,10 +147,8 @@ signalled() {
 signals() {
     local name
     for name in forever aside; do part "$name" "echo \$\$ >$name.new" "mv $name.new $name.pid" 'exec sleep 60'; done
-    signalled 'a run' tests/run.sh --beside ./aside ./forever
     signalled 'a run of parts side by side' tests/run.sh -- ./aside ./forever
-    cp forever tests/gate.sh
-    cp aside tests/wrong_bodies.sh
+    part tests/gate.sh 'echo $$ >aside.pid' 'exec ./forever'
     signalled 'the gate alone' tests/all.sh --gate-alone
     cp "$top/tests/gate.sh" tests
 }
@@ -210,7 +160,7 @@ minutes() {
     part quiet 'sleep 3.5' 'echo "1 passed, 0 failed"'
     part wordy "printf '$long\nlast\tline %s' '$long'" 'sleep 3.5' 'echo' 'echo "1 passed, 0 failed"'
     part short 'echo shown' 'sleep 2.5' 'echo "1 passed, 0 failed"'
-    SAY_EVERY=1 ran 'a line a minute' 0 tests/run.sh --beside ./quiet ./wordy -- 'env A=b ./short' ./short
+    SAY_EVERY=1 ran 'a line a minute' 0 tests/run.sh -- ./quiet ./wordy 'env A=b ./short' ./short
     shown=$(printf 'lastline %s' "$long" | head -c 68)
     if grep -qxE -- "-- 0 minutes: \./quiet: [1-3] seconds \| \./wordy: $shown\.\." minutes; then
         pass
@@ -223,7 +173,7 @@ minutes() {
         fail 'a line a minute, side by side' "found: $(cat minutes)"
     fi
     if [ "$(wc -l <minutes)" -ge 4 ]; then pass; else fail 'a line each second' "found: $(cat minutes)"; fi
-    same 'a line a minute: the other lines' "== 1 of 4: ./wordy|$long|last	line $long|== 2 of 4: ./quiet|\
+    same 'a line a minute: the other lines' "== 1 of 4: ./quiet|== 2 of 4: ./wordy|$long|last	line $long|\
 == 3 of 4: env A=b ./short|shown|== 4 of 4: ./short|shown|" "$(grep -v 'passed\|seconds' said | tr '\n' '|')"
     ends 'a line a minute' '4 passed, 0 failed'
 }
@@ -279,28 +229,21 @@ rt: odd NOT PROVED
 rt: ok
 5 passed, 0 failed
 5 passed, 0 failed'
-    RT_STATUS=3 GATE_LOG=$PWD/log ran 'a gate that fails' 1 tests/gate.sh
-    is_text 'what a gate that fails logs' "$(printf '%s\n' "${lines[@]}" 'gate: ended with status 3')" log
+    RT_STATUS=3 ran 'a gate that fails' 1 tests/gate.sh
     part bin/rt 'echo "rt: must-fail/next.edit: BAD EDIT: it has no file"' 'echo "5 passed, 0 failed"'
-    GATE_LOG=$PWD/log ran 'a wrong body that does not fit' 1 tests/gate.sh
+    ran 'a wrong body that does not fit' 1 tests/gate.sh
     ends 'a wrong body that does not fit' '5 passed, 1 failed'
-    same 'a wrong body that does not fit: the log' 'gate: ended with status 0' "$(tail -n 1 log)"
 }
 
-# The log is seen as it is written: what `rt` says first is there while `rt` still waits.
-gate_log() {
-    part bin/rt 'echo "rt: low proved"' 'awaits seen.made' 'echo "1 passed, 0 failed"'
-    part tests/wrong_bodies.sh 'for ((i = 0; i < 600; i++)); do' \
-        'if grep -qx "rt: low proved" "$GATE_LOG"; then break; fi; sleep 0.05; done' ': >seen.made' \
-        'until tail -n 1 "$GATE_LOG" | grep -qx "gate: ended with status 0"; do sleep 0.05; done' \
-        'echo "$GATE_LOG" >log.name' 'echo "1 passed, 0 failed"'
-    ran 'the gate alone' 0 tests/all.sh --gate-alone
-    same 'the gate alone: parts' '== 1 of 2: tests/gate.sh|== 2 of 2: tests/wrong_bodies.sh|' \
-        "$(grep '^== [0-9]* of ' said | tr '\n' '|')"
+# Wrong bodies are tried over what the gate has built, with a seed that the part's line names.
+gate_alone() {
+    part tests/gate.sh 'echo "1 passed, 0 failed"'
+    part tests/wrong_bodies.sh 'echo "$GATE $SEED"' 'echo "1 passed, 0 failed"'
+    SEED=7 ran 'the gate alone' 0 tests/all.sh --gate-alone
+    same 'the gate alone: parts' '== 1 of 2: tests/gate.sh|== 2 of 2: env GATE=. SEED=7 tests/wrong_bodies.sh|. 7|' \
+        "$(grep -v 'passed\|seconds' said | tr '\n' '|')"
     ends 'the gate alone' '2 passed, 0 failed'
-    same "the gate's log is gone" no "$(if [ -e "$(cat log.name)" ]; then echo yes; else echo no; fi)"
     part tests/gate.sh 'echo "1 passed, 1 failed"' 'exit 1'
-    part tests/wrong_bodies.sh 'echo "1 passed, 0 failed"'
     ran 'the gate alone, which fails' 1 tests/all.sh --gate-alone
     ran 'another word' 2 tests/all.sh --gate
 }
@@ -332,9 +275,10 @@ all_parts() {
     part processor.sh 'echo x86-64-v3'
     for script in cc aarch64-linux-gnu-gcc qemu-x86_64 qemu-aarch64; do part "bin/$script" 'exit 1'; done
     own=(bin/any bin/imitated/{aarch64,aarch64-static,any-Nehalem,any-core2duo,any-max} bin/static)
-    parts_of
-    same "$run: how it begins" 'make test in few, few|--beside|tests/wrong_bodies.sh|tests/gate.sh|tests/built.sh|--' \
-        "$(head -n 6 said | paste -sd '|')"
+    SEED=7 parts_of
+    same "$run: how it begins" \
+        'make test in few, few|tests/gate.sh|tests/built.sh|--|env GATE=. SEED=7 tests/wrong_bodies.sh' \
+        "$(head -n 5 said | paste -sd '|')"
     lacks kernel no_gate reproducible
     goes_over each_kind.sh "${own[@]}" bin/x86-64-v2
     for script in programs/format soak search interop/format readme; do goes_over $script.sh bin; done
@@ -343,10 +287,10 @@ all_parts() {
     goes_over empty_root.sh bin/aarch64/static bin/static
     goes_over library/parts.sh lib
 
-    parts_of --release
+    SEED=7 parts_of --release
     same "$run: how it begins" \
-        'make release-check in all, all|--beside|tests/wrong_bodies.sh --anew|tests/gate.sh|tests/built.sh|--' \
-        "$(head -n 6 said | paste -sd '|')"
+        'make release-check in all, all|tests/gate.sh|tests/built.sh|--|env GATE=. SEED=7 tests/wrong_bodies.sh' \
+        "$(head -n 5 said | paste -sd '|')"
     lacks no_gate reproducible
     goes_over each_kind.sh "${own[@]}"
     goes_over programs/format.sh "${own[@]}" bin/x86-64-v2 bin/x86-64-v3
@@ -496,14 +440,12 @@ in_order
 failures
 at_once
 as_it_comes
-beside
-beside_fails
 signals
 minutes
 minutes_of_documents
 left_out
 gate
-gate_log
+gate_alone
 all_parts
 kinds_of_programs
 ci_setting

@@ -1,7 +1,8 @@
 #!/usr/bin/env bash
 # Each wrong body is refused, for a contract that it doesn't meet (tests/wrong_bodies/wrong_bodies.py): here those without
-# a verdict that holds, and a sample of the others. First it is seen, over a small repository, that a body which shows
-# nothing counts as failed, and a verdict that rests on something else as none. With words only the bodies are tried.
+# a verdict that holds, and a sample of the others, or with RUNS=all all of them. First it is seen, over a small
+# repository, that a body which shows nothing counts as failed, and a verdict that rests on something else as none. With
+# words only the bodies are tried.
 set -u
 cd "$(dirname "$0")/.."
 . tests/lib/checks.sh
@@ -117,7 +118,9 @@ says 2 'FAILED small one_too_many' 'a crate below that is not proved'
 
 export GATE=$gate
 if [ -z "$gate" ]; then unset GATE; fi
-tests/wrong_bodies/wrong_bodies.py --sample "${SAMPLE:-40}" ${SEED:+--seed "$SEED"} | tee "$scratch/said"
+sample=40
+if [ "${RUNS:-few}" = all ]; then sample=1000000; fi
+tests/wrong_bodies/wrong_bodies.py --sample $sample ${SEED:+--seed "$SEED"} | tee "$scratch/said"
 status=${PIPESTATUS[0]}
 last=$(tail -n 1 "$scratch/said")
 if [[ $last =~ ^([0-9]+)\ passed,\ ([0-9]+)\ failed$ ]] && [ $((status == 0)) = $((BASH_REMATCH[2] == 0)) ]; then
