@@ -14,11 +14,13 @@ small=$scratch/small
 verdicts=$small/tests/wrong_bodies/verdicts/small
 gate=${GATE:-}
 
-# prove: proves the crates of the small repository as they are now, as a gate would.
+# prove: proves the crate below the small one as it is now, as a gate would.
 prove() {
     rm -rf "$scratch/gate"
-    cp -r "$small" "$scratch/gate"
-    rm -rf "$scratch/gate/crates/small/must-fail"
+    mkdir -p "$scratch/gate/crates"
+    cp -r "$small/crates/few" "$scratch/gate/crates"
+    cp HANDLES "$scratch/gate"
+    echo 'few:' >"$scratch/gate/crates.txt"
     (cd "$scratch/gate" && rt ci) >"$scratch/gate.log" 2>&1
     export GATE=$scratch/gate
 }

@@ -15,7 +15,9 @@ small_repository() {
 ghost use Rattle.std.specs.Prelude.{◌≡◌, ◌≤◌};
 
 /// Three.
-pub fn few() -> u8 ensures { result ≡ 3 } {
+pub fn few() -> u8
+    ensures { result ≡ 3 }
+{
     3
 }
 END
@@ -316,8 +318,8 @@ old: ghost use Rattle.std.specs
 new: ghost use Rattle.core.specs
 # in: step
 # contract_of_two_more
-old:     ensures { result ≡ number + 2 }
-new:     ensures { result ≡ number + 3 }
+old: ensures { result ≡ number + 2 }
+new: ensures { result ≡ number + 3 }
 # its_twin_does_not_compile
 old:     STEP + u16::from(number)
 new:     STEP + u16::from(number) + (1, 0).0
