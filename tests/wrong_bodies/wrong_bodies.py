@@ -154,9 +154,11 @@ def kit():
 
 
 def libraries_of(crates, names, room):
-    """A folder with the libraries of the crates below these, as far as they are proved."""
+    """A folder with the libraries of the crates below these, as far as they are proved. What has a stamp in the folder of
+    a gate is of an earlier check, which the gate has put back."""
     at, below = os.environ.get("GATE"), sorted({it for name in names for it in crates.below(name)})
-    if not at and below:
+    is_gates = at and not any(os.path.exists(f"{at}/crates/{it}/out/rlib/stamp") for it in below)
+    if below and not is_gates:
         at = f"{room}/gate"
         copy_crates(crates.top, at, below)
         with open(f"{at}/crates.txt", "w", encoding="utf-8") as lines:
