@@ -5,7 +5,6 @@ another, and of the others as few as can be. Ends with 0 if each change does wha
 Usage: sums.py FOLDER
 """
 
-import subprocess
 import sys
 
 sys.dont_write_bytecode = True
