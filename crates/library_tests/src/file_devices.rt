@@ -6,8 +6,7 @@ use std::alloc::Global;
 use std::io;
 use std::io::{ErrorKind, Read, Seek, SeekFrom, Write};
 use std::test::Fail;
-use verity_io::MOST_BYTES;
-use verity_tree::{Device, Failed, FileDevice};
+use verity_io::{Device, Failed, FileDevice, MOST_BYTES};
 
 /// Offsets near powers of two, up to some that only a file with a hole can have.
 const OFFSETS: [u64; 8] = [

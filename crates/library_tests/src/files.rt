@@ -3,7 +3,7 @@ use crate::sparse::{FAR, INTERRUPTS, Sparse};
 use fixtures::data;
 use std::test::Fail;
 use verity_format::put_all;
-use verity_tree::{FileSource, Source};
+use verity_io::{FileSource, Source};
 
 #[test]
 fn long_reads_of_a_source_are_whole(rt: HostRuntime) -> Result<(), Fail> {

@@ -11,7 +11,7 @@ use verity_format::{
     read_superblock, write_descriptor, write_superblock,
 };
 use verity_hash::{Algorithm, Digest};
-use verity_tree::{HashType, TreeSettings};
+use verity_plan::{HashType, TreeSettings};
 
 #[test]
 fn a_superblock_is_written_and_read(rt: HostRuntime) -> Result<(), Fail> {

@@ -1,8 +1,10 @@
-//! Tests of the libraries below the programs, except trees: sources and devices over files, the bytes of the formats,
-//! and what both programs share. Expected bytes come from the formats' public pages, expected digests from `sha2`
-//! over stated bytes.
+//! Tests of the libraries below the programs, except trees: how messages are hashed, alone and side by side; sources
+//! and devices over files, the bytes of the formats, and what both programs share. Expected bytes come from the
+//! formats' public pages; expected digests are published ones, or come from `sha1` and `sha2` over stated bytes.
 #![tactic(auto)]
 
+#[cfg(test)]
+mod examples;
 #[cfg(test)]
 mod file_devices;
 #[cfg(test)]
@@ -14,9 +16,13 @@ mod formats;
 #[cfg(test)]
 mod given_words;
 #[cfg(test)]
+mod one_message;
+#[cfg(test)]
 mod printing;
 #[cfg(test)]
 mod progress;
+#[cfg(test)]
+mod side_by_side;
 #[cfg(test)]
 mod sparse;
 #[cfg(test)]

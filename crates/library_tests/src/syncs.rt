@@ -3,7 +3,7 @@ use crate::sparse::Sparse;
 use std::fs::{Metadata, OpenFile};
 use std::io;
 use std::io::ErrorKind;
-use verity_tree::FileDevice;
+use verity_io::FileDevice;
 
 /// Only a sync of the whole file gives its answer. Nothing else can be asked.
 impl OpenFile for Sparse {

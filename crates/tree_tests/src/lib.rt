@@ -1,7 +1,7 @@
-//! Tests of hashing, plans and trees: how messages and salted blocks are hashed, alone and side by side; a plan's
-//! numbers; how trees are built, also as pieces of their data come and from parts, and compared, also while each read
-//! and write fails in turn; how data is read; and how single blocks are checked by their paths. Expected digests are
-//! published ones, or come from `sha1` and `sha2` over stated bytes.
+//! Tests of salted hashes, plans and trees: how blocks are hashed with a salt; a plan's numbers; how trees are built,
+//! also as pieces of their data come and from parts, and compared, also while each read and write fails in turn; how
+//! data is read; and how single blocks are checked by their paths. Expected digests are published ones, or come from
+//! `sha1` and `sha2` over stated bytes.
 #![tactic(auto)]
 
 #[cfg(test)]
@@ -10,8 +10,6 @@ mod asking;
 mod cases;
 #[cfg(test)]
 mod comparing;
-#[cfg(test)]
-mod examples;
 #[cfg(test)]
 mod failed_reads;
 #[cfg(test)]
@@ -23,8 +21,6 @@ mod file_trees;
 #[cfg(test)]
 mod largest_plans;
 #[cfg(test)]
-mod one_message;
-#[cfg(test)]
 mod parts;
 #[cfg(test)]
 mod paths;
@@ -32,8 +28,6 @@ mod paths;
 mod salting;
 #[cfg(test)]
 mod short_reads;
-#[cfg(test)]
-mod side_by_side;
 #[cfg(test)]
 mod sweep;
 #[cfg(test)]
