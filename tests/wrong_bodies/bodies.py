@@ -1,4 +1,4 @@
-"""Wrong bodies as they stand in crates/CRATE/must-fail and crates/CRATE/wrong-bodies, and what each changes."""
+"""Wrong bodies as they stand in crates/CRATE/wrong-bodies, and what each changes."""
 
 import os
 import re
@@ -115,18 +115,19 @@ def is_of_a_value(text, new):
 def bodies_of(top, crate):
     """The bodies of a crate, in the order of their files. What is none of theirs ends the program."""
     found = []
-    for folder in ("must-fail", "wrong-bodies"):
-        for at, folders, names in os.walk(f"{top}/crates/{crate}/{folder}"):
-            folders.sort()
-            for name in sorted(names):
-                path = f"{at}/{name}"
-                if not name.endswith(".edit"):
-                    sys.exit(f"{os.path.relpath(path, top)}: a file of wrong bodies has a name that ends in .edit")
-                found += read(path, top, crate, folder == "must-fail")
+    if os.path.isdir(f"{top}/crates/{crate}/must-fail"):
+        sys.exit(f"crates/{crate}/must-fail: wrong bodies stand in wrong-bodies/, and are tried by nothing else")
+    for at, folders, names in os.walk(f"{top}/crates/{crate}/wrong-bodies"):
+        folders.sort()
+        for name in sorted(names):
+            path = f"{at}/{name}"
+            if not name.endswith(".edit"):
+                sys.exit(f"{os.path.relpath(path, top)}: a file of wrong bodies has a name that ends in .edit")
+            found += read(path, top, crate)
     return found
 
 
-def read(path, top, crate, is_single):
+def read(path, top, crate):
     """The bodies of a file."""
     found, file, old = [], None, None
     with open(path, encoding="utf-8") as text:
@@ -147,8 +148,6 @@ def read(path, top, crate, is_single):
             old = text
         elif re.fullmatch(r"# \w+", line):
             found.append(Body(crate, line[2:], source))
-    if is_single and [it.name for it in found] != [os.path.basename(path)[: -len(".edit")]]:
-        sys.exit(f"{os.path.relpath(path, top)}: a file of must-fail/ has one body, which has its name")
     return found
 
 

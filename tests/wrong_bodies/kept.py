@@ -40,17 +40,19 @@ class Sums:
 
 
 class Kept:
-    """The verdicts of a crate: lines `NAME SUM VERDICT`, and of each body that went a line `gone NAME: WHY`."""
+    """The verdicts of a crate: lines `NAME SUM VERDICT` or `NAME SUM,SUM VERDICT`, with the sums of the last two times
+    that a body came to this, as over two toolchains; and of each body that went a line `gone NAME: WHY`."""
 
     def __init__(self, folder, crate):
         self.path, self.lines, self.gone = f"{folder}/{crate}", {}, {}
         lines = text_of(self.path).split("\n") if os.path.exists(self.path) else []
         for number, line in enumerate(lines, 1):
-            gone, kept = re.fullmatch(r"gone (\w+): (\S.*)", line), re.fullmatch(r"(\w+) ([0-9a-f]{20}) (\S.*)", line)
+            gone = re.fullmatch(r"gone (\w+): (\S.*)", line)
+            kept = re.fullmatch(r"(\w+) ([0-9a-f]{20}(?:,[0-9a-f]{20})?) (\S.*)", line)
             if gone and gone[1] not in self.gone:
                 self.gone[gone[1]] = gone[2]
             elif kept and kept[1] not in self.lines:
-                self.lines[kept[1]] = kept.groups()[1:]
+                self.lines[kept[1]] = (kept[2].split(","), kept[3])
             elif line:
                 sys.exit(f"{self.path}:{number}: this line is neither a verdict nor a body that is gone: {line}")
 
@@ -62,10 +64,15 @@ class Kept:
         back = next((it for it in self.gone if it in names), None)
         return f"{back} is there, and {self.path} says that it is gone" if back else None
 
+    def keep(self, name, new, said):
+        """Keeps what a body came to, with its sum; and the last sum before, if it came to the same then."""
+        sums, text = self.lines.get(name, ([], said))
+        self.lines[name] = ([new, *(it for it in sums if it != new and text == said)][:2], said)
+
     def write(self, names):
         """Writes the lines, in the order of these names."""
         os.makedirs(os.path.dirname(self.path), exist_ok=True)
-        lines = [" ".join([it, *self.lines[it]]) for it in names if it in self.lines]
+        lines = [f"{it} {','.join(self.lines[it][0])} {self.lines[it][1]}" for it in names if it in self.lines]
         lines += [f"gone {name}: {why}" for name, why in self.gone.items()]
         with open(f"{self.path}.new", "w", encoding="utf-8") as file:
             file.write("".join(f"{it}\n" for it in lines))

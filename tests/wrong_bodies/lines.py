@@ -1,11 +1,12 @@
 #!/usr/bin/env python3
-"""Sees what is read off lines that the prover prints, most of which no body of the small crate brings about: ends with 0
-if all is read rightly, and otherwise says what isn't."""
+"""Sees what is read off lines that the prover prints, most of which no body of the small crate brings about, and which
+sums are kept: ends with 0 if all is right, and otherwise says what isn't."""
 
 import sys
 
 sys.dont_write_bytecode = True
 
+from kept import Kept
 from verdicts import verdict_on
 
 ENSURES = "it is not proved that what the function ensures holds when it returns"
@@ -62,4 +63,14 @@ for said, kind, is_clause, text in LINES:
     if (found.kind, found.is_clause) != (kind, is_clause) or text not in found.text:
         wrong += 1
         print(f"of: {said}\nread: {found}\nexpected: {kind}, {is_clause}, {text}")
+
+# The sums of a verdict, one after another, and those that are kept then.
+SUMS = [("a", "one", "a"), ("b", "one", "ba"), ("b", "one", "ba"), ("c", "one", "cb"), ("d", "two", "d")]
+
+kept = Kept("/nowhere", "small")
+for new, said, sums in SUMS:
+    kept.keep("body", new, said)
+    if kept.lines["body"] != ([*sums], said):
+        wrong += 1
+        print(f"after {new}: kept are {kept.lines['body']}, expected {sums}")
 sys.exit(1 if wrong else 0)

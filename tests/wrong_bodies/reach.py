@@ -24,6 +24,8 @@ KIND = re.compile(
 )
 CLAUSE = re.compile(r"\b(?:requires|ensures)\b[^{}]*\{|\bghost\b(?! use)[^{};]*\{")
 ANTT = re.compile(r"\bRattle\.(\w+)\.(specs|proofs)((?:\.[\w+]+)+)")
+# The same in an attribute.
+PATH = re.compile(r"\b(\w+)::(specs|proofs)((?:::\w+)+)")
 
 
 class Item:
@@ -131,6 +133,7 @@ class Reach:
         folders += [f"{crate}/proofs/+{it}/" for it in cycles]
         proofs = [it for it in self.files if any(it.startswith(folder) for folder in folders)]
         starts += self.put_in(crate, lines)
+        proofs += self.named_in_antt(spelled(" ".join(self.attributes[crate]), crate), crate)
         return [self.attributes[crate], self.closure([*starts, *proofs], set(starts), self.of_statement)]
 
     def of_run(self, crate, functions, lines):
@@ -156,7 +159,7 @@ class Reach:
     def of_statement(self, item, is_whole):
         code = item.head + (item.body if is_whole else [])
         used, ghosts = relevant(item.file.used, code, ""), relevant(item.file.ghosts, (), item.clauses)
-        reached = self.named_in_antt(f"{item.stated} {' '.join(ghosts)}", item.label)
+        reached = self.named_in_antt(spelled(f"{item.stated} {' '.join(ghosts)}", item.file.crate), item.label)
         return [item.label, " ".join(code), item.clauses, used, ghosts], reached + self.named_in_code(code, item.file.crate)
 
     def of_code(self, item, _):
@@ -205,6 +208,15 @@ def pieces(hidden, start, end, indent):
     starts = [it.start() for it in re.compile(rf"^ {{{indent}}}(?=(?!where\b)[a-z]|#\[)", re.M).finditer(hidden, start, end)]
     starts = [it for before, it in zip([None, *starts], starts) if before is None or hidden[before + indent] != "#"]
     return zip(starts, [*starts[1:], end])
+
+
+def spelled(text, crate):
+    """A text of a crate in which the paths of attributes are spelled as the names that they stand for."""
+    named = re.findall(r"\b(?:using|unfolding)\(([^)]*)\)", " ".join(re.findall(r"#!?\[tactic\(.*\)\]", text)))
+    for it in ", ".join(named).split(", ") if named else ():
+        if not PATH.fullmatch(it):
+            raise SystemExit(f"{crate}: an attribute names {it}, which is no path to a file of definitions or proofs")
+    return PATH.sub(lambda it: f"Rattle.{crate if it[1] == 'crate' else it[1]}.{it[2]}{it[3].replace('::', '.')}", text)
 
 
 def without_comments(text):

@@ -1,7 +1,5 @@
 """The lines of a run, and its counts."""
 
-from crates import SPANS, SPENT
-
 
 class Report:
     def __init__(self):
@@ -24,8 +22,5 @@ class Report:
 
     def end(self):
         """The last lines, and the status."""
-        for name, seconds in SPENT.most_common():
-            began, ended = SPANS[name]
-            print(f"{round(seconds)} seconds of processor time, within {round(ended - began)} seconds: {name}")
         print(f"{self.passed} passed, {self.failed} failed")
         return 1 if self.failed or not self.passed else 0

@@ -1,14 +1,18 @@
 # A repository of a small crate, most of whose wrong bodies show nothing, each in another way, with its tests and a crate
-# below it. Sourced by tests/wrong_bodies.sh, which sees that each of those bodies counts as failed.
+# below it. Sourced by tests/judging.sh, which sees that each of those bodies counts as failed.
+
+# lines FILE LINE..: makes a file of these lines.
+lines() { printf '%s\n' "${@:2}" >"$1"; }
 
 # small_repository FOLDER: makes it.
 small_repository() {
     local crate=$1/crates/small
-    mkdir -p "$1/tests/wrong_bodies" "$crate"/{src/out,proofs/{as_many,two_more},must-fail,wrong-bodies} \
+    mkdir -p "$1/tests/wrong_bodies" "$crate"/{src/out,proofs/{as_many,two_more},wrong-bodies} \
         "$1"/crates/{few/specs,few/src,small_tests/src}
     cp tests/wrong_bodies/*.py "$1/tests/wrong_bodies"
+    sed -i 's/^MOST_CHANGES = .*/MOST_CHANGES = 3/' "$1/tests/wrong_bodies/wrong_bodies.py"
     cp HANDLES "$1"
-    printf 'few:\nsmall: few\nsmall_tests: small\n' >"$1/crates.txt"
+    lines "$1/crates.txt" 'few:' 'small: few' 'small_tests: small'
     cat >"$1/crates/few/src/lib.rt" <<'END'
 //! A number for the crate above.
 
@@ -32,46 +36,21 @@ pub fn given(number: u8) -> u8 ensures { result ≡ number } {
     number
 }
 END
-    cat >"$1/crates/few/specs/Few.antt" <<'END'
-use Rattle.std.specs.Prelude.{ℕ}
-
--- how many few are
-unfoldable pub three : ℕ
-three = 3
-END
-    echo 'pub mod Few' >"$1/crates/few/specs/Lib.antt"
-    cat >"$crate/proofs/Threes.antt" <<'END'
-use Rattle.std.proofs.Common.{◌≡◌, refl}
-use Rattle.few.specs.Few.{three}
-
-pub three-is : three ≡ 3
-unfolding three
-three-is = refl
-END
-    echo 'pub mod Threes' >"$crate/proofs/Lib.antt"
-    cat >"$crate/proofs/as_many/Answers.antt" <<'END'
-use Rattle.std.proofs.Common.{arith}
-use Rattle.small.proofs.Threes.{three-is}
-use Rattle.small.proofs.as_many.Goals as goal
-
-pub returns : goal.returns
-returns c = omega (arith, c.few.ensures, three-is)
-END
-    cat >"$crate/proofs/two_more/Answers.antt" <<'END'
-use Rattle.std.proofs.Common.{arith}
-use Rattle.small.proofs.two_more.Goals as goal
-
-pub returns : goal.returns
-returns c = omega (arith, c.one_more.ensures)
-END
+    lines "$1/crates/few/specs/Few.antt" 'use Rattle.std.specs.Prelude.{ℕ}' '' 'unfoldable pub three : ℕ' \
+        'three = 3'
+    lines "$1/crates/few/specs/Lib.antt" 'pub mod Few'
+    lines "$crate/proofs/Threes.antt" 'use Rattle.std.proofs.Common.{◌≡◌, refl}' 'use Rattle.few.specs.Few.{three}' \
+        'pub three-is : three ≡ 3' 'unfolding three' 'three-is = refl'
+    lines "$crate/proofs/Twos.antt" 'use Rattle.std.proofs.Common.{◌≡◌, ◌+◌, refl}' 'pub two : 2 ≡ 1 + 1' 'two = refl'
+    lines "$crate/proofs/Lib.antt" 'pub mod Threes' 'pub mod Twos'
+    lines "$crate/proofs/as_many/Answers.antt" 'use Rattle.std.proofs.Common.{arith}' \
+        'use Rattle.small.proofs.Threes.{three-is}' 'use Rattle.small.proofs.as_many.Goals as goal' \
+        'pub returns : goal.returns' 'returns c = omega (arith, c.few.ensures, three-is)'
+    lines "$crate/proofs/two_more/Answers.antt" 'use Rattle.std.proofs.Common.{arith}' \
+        'use Rattle.small.proofs.two_more.Goals as goal' \
+        'pub returns : goal.returns' 'returns c = omega (arith, c.one_more.ensures)'
     small_tests >"$1/crates/small_tests/src/lib.rt"
     small_bodies >"$crate/wrong-bodies/lib.edit"
-    cat >"$crate/must-fail/adds_two.edit" <<'END'
-# adds_two
-file: src/lib.rt
-old:     u16::from(number) + 1
-new:     u16::from(number) + 2
-END
 }
 
 # small_code: the crate's functions.
@@ -123,6 +102,7 @@ pub fn as_many() -> u8 ensures { result ≡ three } {
 pub fn two_more(number: u8) -> u16 ensures { result ≡ number + 2 } {
     one_more(number) + 1
 }
+#[tactic(auto, using(crate::proofs::Twos::two))]
 pub fn step(number: u8) -> u16 ensures { result ≡ number + 1 } {
     u16::from(number) + STEP
 }
@@ -169,9 +149,7 @@ pub struct Beside<T> {
 }
 
 impl Beside<Least> {
-    pub fn number_beside(self) -> u8
-        ensures { result ≡ self.beside }
-    {
+    pub fn number_beside(self) -> u8 ensures { result ≡ self.beside } {
         self.beside
     }
 }
@@ -204,6 +182,9 @@ END
 small_bodies() {
     cat <<'END'
 file: src/lib.rt
+# adds_two
+old:     u16::from(number) + 1
+new:     u16::from(number) + 2
 # adds_none
 old:     1 + u16::from(number)
 new:     1 + u16::from(number).saturating_sub(1)
@@ -344,6 +325,9 @@ END
 
 # small_lines: what the script has to say of them: a piece of each line but the last one.
 small_lines() {
+    printf 'FAILED small %s: crates/small/wrong-bodies/lib.edit:\n' does_not_fit has_no_right_twin its_twin_has_another_shape \
+        two_functions names_no_function comment_in_place_of_code \
+        words_of_the_contracts contract_of_two_more
     cat <<'END'
 refused small adds_two: one_more: 
 refused small one_less_is_given: out::given: returns
@@ -362,24 +346,16 @@ FAILED small passes_its_tests: the_lesser_is_at_most_each of small_tests passes
 FAILED small caught_by_a_broken_test: the_greater_is_at_most_each of small_tests: it fails over the code as it stands
 FAILED small caught_by_no_test: there_is_no_such_test of small_tests: it doesn't run over the code as it stands
 FAILED small refused_and_caught, by the prover: it isn't proved, so no test has to catch it: no_greater: 
-FAILED small does_not_fit: crates/small/wrong-bodies/lib.edit:
 FAILED small text_in_place_of_a_number: it doesn't compile
 FAILED small goes_where_no_proof_follows: only a proof names what went away
 FAILED small goes_where_no_proof_follows, right twin: it isn't proved
-FAILED small has_no_right_twin: crates/small/wrong-bodies/lib.edit:
 FAILED small its_twin_is_wrong_too, right twin: it isn't proved
-FAILED small its_twin_has_another_shape: crates/small/wrong-bodies/lib.edit:
 FAILED small means_the_same_beside_a_constant: step_to is still proved
 FAILED small greater_by_two: it is refused, but not for a clause of its contract, and has no right twin: greater: overflow_
 FAILED small greater_than_the_greatest: it is refused, but not for a clause of its contract, and has no right twin: greater_again: greater-requires
 FAILED small error_counted_twice: it is refused, but not for a clause of its contract, and has no right twin: count_error: returns-then-is_err-clause-count (open at a limit of the search)
 FAILED small its_twin_does_not_compile, right twin: it isn't proved: it doesn't compile
-FAILED small two_functions: crates/small/wrong-bodies/lib.edit:
 FAILED small two_functions_and_the_wrong_one: at_most is still proved
-FAILED small names_no_function: crates/small/wrong-bodies/lib.edit:
-FAILED small comment_in_place_of_code: crates/small/wrong-bodies/lib.edit:
-FAILED small words_of_the_contracts: crates/small/wrong-bodies/lib.edit:
-FAILED small contract_of_two_more: crates/small/wrong-bodies/lib.edit:
 FAILED small least_in_place_of_the_least: it compiles
 FAILED small number_in_place_of_another_type: the error at its line doesn't name Greatest
 refused small its_twin_is_wrong_too: same: returns

@@ -21,6 +21,7 @@ CHANGES = [
     ("a definition in a crate below", "crates/few/specs/Few.antt", "three = 3", "three = 4", ["one_too_many"]),
     ("another function's body, in a crate below", "crates/few/src/lib.rt", "    3\n", "    1 + 2\n", []),
     ("a lemma", "crates/small/proofs/Threes.antt", "= refl", "= refl -- as it is", ["one_too_many"]),
+    ("a lemma of an attribute", "crates/small/proofs/Twos.antt", "= refl", "= refl -- as it is", ["constant_of_two"]),
     ("a proof", ANSWERS, "(arith, c.few.ensures, three-is)", "(arith, three-is, c.few.ensures)", ["one_too_many"]),
     ("a comment in a proof", ANSWERS, "pub returns", "-- It is three.\npub returns", []),
     ("a comment", SOURCE, "/// The next number.", "/// The number after it.", []),

@@ -1,9 +1,8 @@
 #!/usr/bin/env python3
 """Puts each wrong body into the code and sees that the prover refuses it, for a contract that it doesn't meet.
 
-A proof rests on the contracts of other functions, not on their bodies. So wrong bodies of different functions go into
-one copy of a crate together, and one check says of each function whether it is proved. docs/WRONG_BODIES.md says in
-which form the bodies stand, when one passes, and how verdicts are kept.
+docs/WRONG_BODIES.md says in which form the bodies stand, how they are tried together, when one passes, and how verdicts
+are kept.
 
 Usage: tests/wrong_bodies.sh [--anew] [--only WORD] [--sample NUMBER [--seed SEED]] [CRATE..]
 
@@ -33,8 +32,10 @@ from kept import Kept, Sums
 from report import Report
 from verdicts import Verdict, fault
 
-# A check takes up to so much memory.
+# A check takes up to so much memory, and has up to so many changes: more go into several checks, so that no processor
+# waits long for another at the end.
 NEEDED_MEMORY = 3 << 30
+MOST_CHANGES = 24
 
 TOP = os.path.dirname(os.path.dirname(os.path.dirname(os.path.abspath(__file__))))
 
@@ -50,7 +51,7 @@ class Work:
     def fits(self, body, sums):
         """Whether the verdict that is kept of a body holds."""
         kept = self.kept.lines.get(body.name)
-        return kept is not None and kept[0] == sums.of(body, self.changes[body], kept[1])
+        return kept is not None and sums.of(body, self.changes[body], kept[1]) in kept[0]
 
     def of(self, wanted):
         """The changes that are tried, of those of which this holds."""
@@ -64,7 +65,7 @@ class Run:
         self.crates, self.report, self.sums, self.words, self.room = crates, report, sums, words, room
         with open("/proc/meminfo", encoding="utf-8") as lines:
             free = next(int(it.split()[1]) * 1024 for it in lines if it.startswith("MemAvailable:"))
-        at_once = max(1, min(len(os.sched_getaffinity(0)), free // NEEDED_MEMORY))
+        at_once = int(os.environ.get("AT_ONCE", max(1, min(len(os.sched_getaffinity(0)), free // NEEDED_MEMORY))))
         self.pool, self.running = concurrent.futures.ThreadPoolExecutor(at_once), {}
 
     def begin(self, call, *given, then):
@@ -91,8 +92,10 @@ class Run:
         """Checks the changes of a crate: right twins together, as far as they fit into one text, and first those of most
         functions; then the others over what that check has kept."""
         crate = work.crate
-        groups = groups_of(work.of(lambda it: it.has_to_prove()), same_line)
+        twins = groups_of(work.of(lambda it: it.has_to_prove()), same_line)
+        groups = [sorted(it, key=lambda it: it.functions) for it in twins]
         groups += groups_of(work.of(lambda it: not (it.has_to_prove() or it.body.test or it.body.type_name)), same_function)
+        groups = [it[at : at + MOST_CHANGES] for it in groups for at in range(0, len(it), MOST_CHANGES)]
         groups.sort(key=lambda it: (not it[0].has_to_prove(), -len(functions_of(it))))
 
         def begin_others(answer):
@@ -138,14 +141,15 @@ class Run:
             work.kept.write(work.names)
 
     def keep(self, work, body):
-        before = work.kept.lines.get(body.name) if work.fits(body, self.sums) else None
-        work.kept.lines.pop(body.name, None)
-        if not any(why for _, why in work.found[body].values()):
-            verdict, _ = work.found[body][work.changes[body][0]]
-            said = f"{verdict.how(body)} {verdict.text}"
-            work.kept.lines[body.name] = (self.sums.of(body, work.changes[body], said), said)
-            if before and before[1] != said:
-                self.report.fail(body.label(), f"the verdict that is kept is another: {before[1]}")
+        if any(why for _, why in work.found[body].values()):
+            work.kept.lines.pop(body.name, None)
+            return
+        before = work.kept.lines[body.name][1] if work.fits(body, self.sums) else None
+        verdict, _ = work.found[body][work.changes[body][0]]
+        said = f"{verdict.how(body)} {verdict.text}"
+        work.kept.keep(body.name, self.sums.of(body, work.changes[body], said), said)
+        if before and before != said:
+            self.report.fail(body.label(), f"the verdict that is kept is another: {before}")
 
 
 def kit():
