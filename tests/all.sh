@@ -3,10 +3,11 @@
 # comparisons with Debian's programs, if these are installed. Wrong bodies are tried, those without a verdict that holds
 # and a sample of the others. The tests go over the programs in bin/, which are those for this processor; over each other
 # kind of programs goes what can differ there. The library for C is called from C, and its examples run. All that comes
-# after the gate and what it built runs side by side. Random runs are others each time: their seed is in the lines of the
-# parts, or they print it. The last line is 'N passed, M failed', over all parts.
+# after the gate and what it built runs side by side; what needs neither runs beside the gate. Random runs are others
+# each time: their seed is in the lines of the parts, or they print it. The last line is 'N passed, M failed', over all.
 # With --without-gate the programs that are in bin/ are tested, and the output says that the gate was left out. With
-# --gate-alone the gate runs, and after it the wrong bodies. With --release all is tried in full, as before a release:
+# --gate-alone the gate runs, beside it how wrong bodies are judged, and after it the wrong bodies. With --release all is
+# tried in full, as before a release:
 # each wrong body, each kind of programs and libraries by all tests, every setting, every request for memory, twenty
 # times as many random runs, and the kernel.
 set -u
@@ -63,7 +64,7 @@ add_library() {
 }
 
 # add_tests: adds the parts that test programs and libraries, the longest first, so that no processor waits for one at
-# the end.
+# the end; and to `free` what needs nothing of the gate.
 add_tests() {
     local build memory='tests/memory.sh --short'
     if [ $release = yes ]; then
@@ -79,8 +80,8 @@ add_tests() {
             tests/recipes.sh
     done
     for build in "${kinds[@]}"; do add_kind "$build"; done
-    parts+=(tests/bindings/*.sh tests/definitions.sh tests/pictures.sh tests/install.sh tests/completion.sh tests/running.sh
-        tests/runtime.sh tests/any_processor.sh tests/kinds.sh)
+    parts+=(tests/bindings/*.sh tests/install.sh tests/completion.sh tests/running.sh tests/kinds.sh)
+    free+=(tests/definitions.sh tests/pictures.sh tests/runtime.sh tests/any_processor.sh)
 }
 
 # COMMAND is what docs/TESTS.md says the minutes of.
@@ -88,6 +89,8 @@ export COMMAND='make test'
 # What the wrong bodies rest on, the gate has just built.
 bodies="env GATE=. SEED=$seed tests/wrong_bodies.sh"
 parts=(tests/gate.sh)
+# What needs nothing of the gate.
+free=(tests/judging.sh)
 case ${1:-} in
 --gate-alone)
     COMMAND='make gate'
@@ -95,7 +98,7 @@ case ${1:-} in
     ;;
 --without-gate)
     COMMAND='make check'
-    parts=(tests/no_gate.sh --)
+    parts=(tests/no_gate.sh --) free=()
     add_tests
     ;;
 --release)
@@ -124,7 +127,7 @@ case ${1:-} in
 esac
 
 # A signal to this script ends the whole run.
-env --default-signal=INT,QUIT BIN=bin tests/run.sh "${parts[@]}" &
+env --default-signal=INT,QUIT BIN=bin tests/run.sh "${parts[@]}" -- "${free[@]}" &
 trap 'kill "$!"; wait; exit 130' INT
 trap 'kill "$!"; wait; exit 143' TERM
 wait "$!"

@@ -1,8 +1,9 @@
 #!/usr/bin/env bash
-# tests/run.sh PART.. [-- PART..]: runs each part, a command line in one argument, and shows its
+# tests/run.sh PART.. [-- PART.. [-- PART..]]: runs each part, a command line in one argument, and shows its
 # output under a line that says how far the run is. The first parts run one after another, and their output is shown as
 # it comes. Parts after `--` run side by side, as many at once as there are processors, and each one's output is shown
-# whole, in the order of the parts.
+# whole, in the order of the parts. Those after a second `--` need nothing of the others: they begin as soon as there is
+# a processor, also beside the first ones, and give way to all others.
 # Each part has to end with a line 'N passed, M failed', and so does the whole run, with the sums. The status is 1 if
 # anything failed, or a part ended without that line. A part says by lines 'left out: ..' what it has left out; one that
 # ends with status 77 was left out itself, and its last line says why. If MAY_BE_LEFT_OUT is set, it has patterns, each
@@ -34,20 +35,27 @@ failed=0
 left_out=()
 broken=()
 
-# The parts: up to the number `alone` those that run one after another.
+# The parts: up to the number `alone` those that run one after another, and from `free` on those that wait for none.
 parts=()
-alone=$#
+alone=$# free=$#
 for word in "$@"; do
-    if [ "$word" = -- ]; then alone=${#parts[@]}; else parts+=("$word"); fi
+    if [ "$word" != -- ]; then
+        parts+=("$word")
+    elif [ $alone -eq $# ]; then
+        alone=${#parts[@]}
+    else
+        free=${#parts[@]}
+    fi
 done
 
 # run INDEX: runs a part. Its status, its seconds and those of processor time go to a file, which is there once they are
 # in it, and then a line to the pipe that `waits` reads. The line says no more than that a part has ended: a `read` whose
 # time is over may have taken half of a number.
 run() {
-    local status=0
+    local status=0 first=
+    if [ "$1" -ge $free ]; then first='nice -n 19'; fi
     # shellcheck disable=SC2086
-    ${parts[$1]} 4>&- || status=$?
+    $first ${parts[$1]} 4>&- || status=$?
     times >"$logs/$1.times"
     echo "$status $((SECONDS - begun[$1])) $(processor_seconds "$logs/$1.times")" >"$logs/$1.ends"
     mv "$logs/$1.ends" "$logs/$1.ended"
@@ -59,21 +67,29 @@ processor_seconds() {
     tail -n 1 "$1" | tr ms '  ' | awk '{printf "%.0f\n", 60 * ($1 + $3) + $2 + $4}'
 }
 
-# begins_next: begins the parts whose turn it is, in the background, each as a group of processes, so that one signal
-# ends all of it.
-begins_next() {
-    while [ "$next" -lt "${#parts[@]}" ] && has_place; do
-        begun[next]=$SECONDS
-        : >"$logs/$next"
-        run "$next" >>"$logs/$next" 2>&1 </dev/null &
-        running[next]=$!
-        next=$((next + 1))
-    done
+# begins INDEX: begins a part in the background, as a group of processes, so that one signal ends all of it.
+begins() {
+    begun[$1]=$SECONDS
+    : >"$logs/$1"
+    run "$1" >>"$logs/$1" 2>&1 </dev/null &
+    running[$1]=$!
 }
 
-# has_place: whether the next part may begin.
+# begins_next: begins the parts whose turn it is.
+begins_next() {
+    while [ "$next" -lt "${#parts[@]}" ] && [ "$next" -lt $free ] && has_place; do begins $((next++)); done
+    while [ "$next_free" -lt "${#parts[@]}" ] && has_processor; do begins $((next_free++)); done
+}
+
+# has_place: whether the next part may begin. Up to the first of those side by side the one before it has to have ended.
 has_place() {
-    if [ "$next" -le "$alone" ]; then [ ${#running[@]} -eq 0 ]; else [ ${#running[@]} -lt "$processors" ]; fi
+    if [ "$next" -gt 0 ] && [ "$next" -le $alone ] && [ -n "${running[next - 1]:-}" ]; then return 1; fi
+    [ "$next" -lt $alone ] || has_processor
+}
+
+# has_processor: whether fewer parts run than there are processors.
+has_processor() {
+    [ ${#running[@]} -lt "$processors" ]
 }
 
 # waits: until a part ends, for a second at most. What was killed has said nothing.
@@ -87,7 +103,7 @@ waits() {
 
 # shows: shows what can be shown by now, in the order of the parts.
 shows() {
-    while [ "$shown" -lt "$next" ]; do
+    while [ "$shown" -lt ${#parts[@]} ] && [ -n "${begun[$shown]:-}" ]; do
         if [ "$shown" -lt "$alone" ]; then shows_lines; fi
         if [ -n "${running[$shown]:-}" ]; then return; fi
         if [ "$shown" -lt "$alone" ]; then ends_lines; else shows_whole "$shown"; fi
@@ -202,6 +218,7 @@ mkfifo "$logs/ended"
 exec 4<>"$logs/ended"
 begun=()
 next=0
+next_free=$free
 shown=0
 half_shown=0
 said=0

@@ -95,10 +95,13 @@ at_once() {
     part b ': >b.made' 'awaits a.made' 'echo "1 passed, 0 failed"'
     ran 'side by side' 0 tests/run.sh -- ./a ./b
     rm -f ./*.made
+    ran 'beside what runs alone' 0 tests/run.sh ./a ./two -- ./one -- ./b
+    same 'beside what runs alone: parts' './a ./two ./one ./b' "$(sed -n 's/^== [1-4] of 4: //p' said | paste -sd ' ')"
+    rm -f ./*.made
     part alone 'if [ -e busy ]; then exit 1; fi' ': >busy' 'sleep 0.3' 'rm busy' 'echo "1 passed, 0 failed"'
-    ran 'one after another' 0 tests/run.sh ./alone ./alone -- ./alone
+    ran 'one after another' 0 tests/run.sh ./alone ./alone -- ./alone -- ./one
     processors 1
-    ran 'no more than there are processors' 0 tests/run.sh -- ./alone ./alone ./alone
+    ran 'no more than there are processors' 0 tests/run.sh ./alone -- ./alone ./alone -- ./alone
     processors 2
 }
 
@@ -148,6 +151,8 @@ signals() {
     local name
     for name in forever aside; do part "$name" "echo \$\$ >$name.new" "mv $name.new $name.pid" 'exec sleep 60'; done
     signalled 'a run of parts side by side' tests/run.sh -- ./aside ./forever
+    signalled 'a part beside another' tests/run.sh ./forever -- -- ./aside
+    part tests/judging.sh 'echo "1 passed, 0 failed"'
     part tests/gate.sh 'echo $$ >aside.pid' 'exec ./forever'
     signalled 'the gate alone' tests/all.sh --gate-alone
     cp "$top/tests/gate.sh" tests
@@ -212,11 +217,9 @@ left_out() {
 # The gate over a made-up `rt`.
 gate() {
     local lines=('== low' 'fn low::next: proved' 'rt: low proved' 'rt: low: its tests are proved'
-        'rt: top is kept: an earlier run' 'rt: top: trying its must-fail edits (3)' 'rt: odd NOT PROVED' 'rt: ok'
-        '5 passed, 0 failed')
-    mkdir -p crates/{low,top,odd}/src crates/top/must-fail
+        'rt: top is kept: an earlier run' 'rt: odd NOT PROVED' 'rt: ok' '5 passed, 0 failed')
+    mkdir -p crates/{low,top,odd}/src
     echo '#[test]' >crates/low/src/lib.rt
-    : >crates/top/must-fail/next.edit
     part bin/rt "$(printf 'echo "%s"\n' "${lines[@]}")" 'exit ${RT_STATUS:-0}'
     ran 'the gate' 0 tests/gate.sh
     says 'the gate' '== low
@@ -224,15 +227,10 @@ fn low::next: proved
 rt: low proved (1 of 3 crates)
 rt: low: its tests are proved (1 of 1 crates with tests)
 rt: top is kept: an earlier run (2 of 3 crates)
-rt: top: trying its must-fail edits (3) (1 of 1 crates with edits)
 rt: odd NOT PROVED
 rt: ok
-5 passed, 0 failed
 5 passed, 0 failed'
-    RT_STATUS=3 ran 'a gate that fails' 1 tests/gate.sh
-    part bin/rt 'echo "rt: must-fail/next.edit: BAD EDIT: it has no file"' 'echo "5 passed, 0 failed"'
-    ran 'a wrong body that does not fit' 1 tests/gate.sh
-    ends 'a wrong body that does not fit' '5 passed, 1 failed'
+    RT_STATUS=3 ran 'a gate that fails' 3 tests/gate.sh
 }
 
 # Wrong bodies are tried over what the gate has built, with a seed that the part's line names.
@@ -240,9 +238,10 @@ gate_alone() {
     part tests/gate.sh 'echo "1 passed, 0 failed"'
     part tests/wrong_bodies.sh 'echo "$GATE $SEED"' 'echo "1 passed, 0 failed"'
     SEED=7 ran 'the gate alone' 0 tests/all.sh --gate-alone
-    same 'the gate alone: parts' '== 1 of 2: tests/gate.sh|== 2 of 2: env GATE=. SEED=7 tests/wrong_bodies.sh|. 7|' \
+    same 'the gate alone: parts' \
+        '== 1 of 3: tests/gate.sh|== 2 of 3: env GATE=. SEED=7 tests/wrong_bodies.sh|. 7|== 3 of 3: tests/judging.sh|' \
         "$(grep -v 'passed\|seconds' said | tr '\n' '|')"
-    ends 'the gate alone' '2 passed, 0 failed'
+    ends 'the gate alone' '3 passed, 0 failed'
     part tests/gate.sh 'echo "1 passed, 1 failed"' 'exit 1'
     ran 'the gate alone, which fails' 1 tests/all.sh --gate-alone
     ran 'another word' 2 tests/all.sh --gate
