@@ -79,8 +79,9 @@ check: programs libraries
 release-check:
 	tests/all.sh --release
 
-# The gate: every proof from nothing, the tests of the crates, the programs' stored runs, and after it the wrong bodies
-# without a verdict that holds and a sample of the others, which the prover has to refuse or a test has to catch.
+# The gate: every proof from nothing, the tests of the crates, the programs' stored runs; beside it how wrong bodies are
+# judged, and after it those without a verdict that holds and a sample of the others, which the prover has to refuse or a
+# test has to catch.
 gate:
 	tests/all.sh --gate-alone
 
@@ -190,10 +191,10 @@ help:
 	@echo 'make run             7 minutes     proves and builds fsverity, and prints the digest of a file'
 	@echo 'make programs        11 minutes    proves and builds bin/fsverity and bin/veritysetup [TARGET, CPU, STATIC=yes]'
 	@echo 'make library         6 minutes     proves and builds the library for C [TARGET, CPU]'
-	@echo 'make test            60 minutes    all tests: gate, the programs as a user runs them, documents, comparisons'
+	@echo 'make test            54 minutes    all tests: gate, the programs as a user runs them, documents, comparisons'
 	@echo 'make check           8 minutes +   all tests but the gate'
-	@echo 'make release-check   160 minutes   all tests in full, as before a release'
-	@echo 'make gate            45 minutes    every proof from nothing, tests of the crates, wrong bodies to be refused'
+	@echo 'make release-check   130 minutes   all tests in full, as before a release'
+	@echo 'make gate            40 minutes    every proof from nothing, tests of the crates, wrong bodies to be refused'
 	@echo 'make wrong-bodies    70 minutes +  sees wrong bodies refused, and writes their verdicts [CRATE, ANEW]'
 	@echo 'make check-programs  1 minute +    runs the programs as a user would'
 	@echo 'make check-library   6 minutes +   calls the library from C, and runs its examples'
