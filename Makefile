@@ -75,7 +75,7 @@ check: programs libraries
 	tests/all.sh --without-gate
 
 # All tests in full, as before a release: all wrong bodies anew, each kind of programs and libraries by all tests, every
-# setting, every request for memory, all random runs, and the kernel.
+# setting, all random runs, and the kernel.
 release-check:
 	tests/all.sh --release
 

@@ -2,13 +2,13 @@
 # All tests: the gate, what it built, then the programs, run as a user runs them, the examples of the documents, and the
 # comparisons with Debian's programs, if these are installed. Wrong bodies are tried, those without a verdict that holds
 # and a sample of the others. The tests go over the programs in bin/, which are those for this processor; over each other
-# kind of programs goes what can differ there. The library for C is called from C, and its examples run. All that comes
-# after the gate and what it built runs side by side; what needs neither runs beside the gate. Random runs are others
-# each time: their seed is in the lines of the parts, or they print it. The last line is 'N passed, M failed', over all.
+# kind of programs goes what can differ there. The library for C is called from C, and its examples run. What is built
+# for them begins once the gate has proved that, and then all of these run side by side; wrong bodies, and what needs
+# nothing that is built, run from the beginning. Random runs are others each time: their seed is in the lines of the
+# parts, or they print it. The last line is 'N passed, M failed', over all.
 # With --without-gate the programs that are in bin/ are tested, and the output says that the gate was left out. With
-# --gate-alone the gate runs, beside it how wrong bodies are judged, and after it the wrong bodies. With --release all is
-# tried in full, as before a release:
-# each wrong body, each kind of programs and libraries by all tests, every setting, every request for memory, twenty
+# --gate-alone the gate runs, and beside it the wrong bodies, and how they are judged. With --release all is tried in
+# full, as before a release: each wrong body, each kind of programs and libraries by all tests, every setting, twenty
 # times as many random runs, and the kernel.
 set -u
 cd "$(dirname "$0")/.."
@@ -16,6 +16,7 @@ cd "$(dirname "$0")/.."
 builds=(bin)
 kinds=()
 libraries=(lib)
+memory=tests/memory.sh
 release=no
 seed=${SEED:-$((RANDOM * 32768 + RANDOM))}
 
@@ -66,12 +67,9 @@ add_library() {
 # add_tests: adds the parts that test programs and libraries, the longest first, so that no processor waits for one at
 # the end; and to `free` what needs nothing of the gate.
 add_tests() {
-    local build memory='tests/memory.sh --short'
-    if [ $release = yes ]; then
-        memory=tests/memory.sh
-        parts+=(tests/kernel.sh)
-    fi
-    parts+=("$memory" tests/soak.sh tests/search.sh)
+    local build
+    if [ $release = yes ]; then parts+=(tests/kernel.sh); fi
+    parts+=(tests/soak.sh tests/search.sh)
     # What is handed out is made of all kinds of programs.
     if [ ${#kinds[@]} -gt 0 ]; then parts+=(tests/packages.sh tests/release.sh); fi
     add_library
@@ -80,32 +78,37 @@ add_tests() {
             tests/recipes.sh
     done
     for build in "${kinds[@]}"; do add_kind "$build"; done
-    parts+=(tests/bindings/*.sh tests/install.sh tests/completion.sh tests/running.sh tests/kinds.sh)
+    parts+=(tests/bindings/*.sh tests/install.sh tests/completion.sh tests/running.sh tests/kinds.sh "$memory")
     free+=(tests/definitions.sh tests/pictures.sh tests/runtime.sh tests/any_processor.sh)
 }
 
 # COMMAND is what docs/TESTS.md says the minutes of.
 export COMMAND='make test'
-# What the wrong bodies rest on, the gate has just built.
-bodies="env GATE=. SEED=$seed tests/wrong_bodies.sh"
 parts=(tests/gate.sh)
-# What needs nothing of the gate.
-free=(tests/judging.sh)
+# Wrong bodies need no more of the gate than crates that are proved, as they come; but where earlier checks have left
+# libraries, the gate puts those back at its end, and bodies are tried after it.
+bodies="SEED=$seed tests/wrong_bodies.sh" free=() after=()
+if compgen -G 'crates/*/out/rlib/stamp' >/dev/null; then
+    after=("env $bodies")
+else
+    free=("env GATE=. $bodies")
+fi
+free+=(tests/judging.sh)
 case ${1:-} in
 --gate-alone)
     COMMAND='make gate'
-    parts+=(-- "$bodies")
+    parts+=(-- "${after[@]}")
     ;;
 --without-gate)
     COMMAND='make check'
-    parts=(tests/no_gate.sh --) free=()
+    parts=(tests/no_gate.sh --) free=() memory+=' --programs'
     add_tests
     ;;
 --release)
     COMMAND='make release-check'
     export RUNS=all SETTINGS=all
     release=yes
-    parts+=(tests/built.sh -- "$bodies")
+    parts+=(tests/built.sh -- "${after[@]}")
     builds=(bin/x86-64-v2)
     mapfile -t kinds < <(kinds)
     if runs_v3; then
@@ -115,7 +118,7 @@ case ${1:-} in
     add_tests
     ;;
 '')
-    parts+=(tests/built.sh -- "$bodies")
+    parts+=(tests/built.sh -- "${after[@]}")
     mapfile -t kinds < <(kinds)
     if runs_v3; then kinds=(bin/x86-64-v2 "${kinds[@]}"); fi
     add_tests

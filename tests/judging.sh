@@ -7,6 +7,7 @@ cd "$(dirname "$0")/.."
 needs rt 'none: the Rattle toolchain'
 needs python3 python3
 . tests/wrong_bodies/small.sh
+unset FIRST_LOG
 small=$scratch/small
 verdicts=$small/tests/wrong_bodies/verdicts/small
 

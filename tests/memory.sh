@@ -1,24 +1,18 @@
 #!/usr/bin/env bash
 # Refuses each request for memory in turn, counting up until nothing is refused: of the run functions in
-# crates/memory_tests, by `rt try`, which builds them anew for each number; and of both programs' commands, by a library
-# that is loaded before them. Needs the toolchain and a C compiler. BIN=FOLDER takes the programs of another folder.
-# With --short, as a part of all tests, the run functions have just the requests of a store, of a report and of a line
-# refused, and if there is no C compiler, the programs' commands are left out. With --programs it is the programs alone,
-# also such that qemu runs for 64-bit ARM; a static program loads no library.
+# crates/memory_tests, whose tests the gate has built, or else `rt test` builds, and of both programs' commands, by a
+# library that is loaded before them. Needs the toolchain and a C compiler. BIN=FOLDER takes the programs of another
+# folder. With --programs it is the programs alone, also such that qemu runs for 64-bit ARM; a static program loads no
+# library.
 set -u
 cd "$(dirname "$0")/.."
 . tests/lib/checks.sh
 . tests/lib/stated_images.sh
-short=no run_functions=run_functions
-case ${1:-} in
---short) short=yes run_functions=first_requests ;;
---programs) run_functions= ;;
-esac
 # What compiles the library, and what loads it before a program.
 compiler=cc package=gcc loader=LD_PRELOAD=
 if is_imitated; then loader=QEMU_SET_ENV=LD_PRELOAD=; fi
 if grep -qs '^qemu-aarch64' "$BIN/imitated"; then compiler=aarch64-linux-gnu-gcc package=gcc-aarch64-linux-gnu; fi
-if [ $short = no ]; then needs $compiler $package; fi
+needs $compiler $package
 has_program veritysetup
 has_program fsverity
 veritysetup=$BIN/veritysetup
@@ -48,80 +42,30 @@ declare -A endings_of=(
     [fsverity_runs::digest_of_no_file_is_whole]='Unprepared'
 )
 
-# endings_in LOG: each test that has run and how it ended, a line each.
-endings_in() {
-    awk '
-        /^test .* \.\.\. (ok|FAILED)$/ { if (name) print name, "Crashed"; name = "" }
-        /^test .* \.\.\. ok$/ { print $2, "Whole" }
-        /^test .* \.\.\. FAILED$/ { name = $2 }
-        / left: / && name { print name, $NF; name = "" }
-        END { if (name) print name, "Crashed" }
-    ' "$1"
-}
-
-# How each test of the run functions ends if just one request is refused: the first of the store, of the report or of
-# the line, each at the number that it has in the tests of the image and in those of files.
-declare -A ending_at=(
-    [5]='dump_is_whole Untouched
-        format_is_whole Untouched
-        format_of_a_tree_alone_is_whole Untouched
-        verify_is_whole Untouched
-        verify_of_a_tree_alone_is_whole Untouched
-        verify_of_a_changed_device_is_whole Untouched'
-    [6]='format_is_whole Stopped
-        format_of_a_tree_alone_is_whole Stopped
-        digest_is_whole Untouched
-        digest_with_output_files_is_whole Untouched'
-    [7]='digest_is_whole Untouched
-        digest_with_output_files_is_whole Stopped'
-)
-
-# refuse_of_run_functions NUMBER: runs the tests of the run functions with this request of each refused, and writes the
-# test's endings to $scratch/endings. Answers 1 if they have not run.
-refuse_of_run_functions() {
-    (cd crates/memory_tests && rt try --test --fail-alloc "$1") >"$scratch/log" 2>&1
-    if ! grep -q '^test result: ' "$scratch/log"; then
-        fail "request $1 of the run functions" "$(tail -n 5 "$scratch/log")"
-        return 1
-    fi
-    endings_in "$scratch/log" >"$scratch/endings"
-    same "request $1: the tests that have run" "$(printf '%s\n' "${!endings_of[@]}" | sort)" \
-        "$(cut -d ' ' -f 1 "$scratch/endings" | sort)"
-}
-
-# The tests' endings if the requests of a store, a report and a line are refused.
-first_requests() {
-    local number test ending
-    for number in "${!ending_at[@]}"; do
-        refuse_of_run_functions "$number" || return
-        while read -r test ending; do
-            same "request $number of $test" "$ending" "$(sed -n "s/^[a-z_]*::$test //p" "$scratch/endings")"
-        done <<<"${ending_at[$number]}"
-    done
-}
-
-# The tests' endings over all numbers; equal ones in a row stand once.
+# run_functions: how each of these tests ends while its requests are refused in turn; equal endings in a row stand once.
 run_functions() {
-    local number=1 test ending
-    local -A seen=()
-    while [ $number -le 100 ]; do
-        refuse_of_run_functions $number || return
-        while read -r test ending; do
-            case $ending in
-            Wrong | Crashed) fail "request $number of $test" "found: $ending" ;;
-            esac
-            [[ ${seen[$test]-} = *" $ending" ]] || seen[$test]+=" $ending"
-        done <"$scratch/endings"
-        if grep -q '^test result: ok' "$scratch/log"; then
-            for test in "${!endings_of[@]}"; do
-                same "$test" " ${endings_of[$test]} Whole" "${seen[$test]-}"
-            done
-            some_refused 'the run functions' $((number - 1))
-            return
-        fi
-        number=$((number + 1))
+    local tests=crates/memory_tests/out/memory_tests_tests test number ending seen
+    # The gate may still be proving them.
+    while [ -e "${FIRST_LOG:-}" ] && [ ! -e "$FIRST_LOG.ended" ] &&
+        ! grep -q '^rt: memory_tests: its tests are ' "$FIRST_LOG"; do sleep 5; done
+    if [ ! -e "$tests" ] || compgen -G 'crates/*/out/rlib/stamp' >/dev/null; then
+        (cd crates/memory_tests && rt test) >"$scratch/log" 2>&1 || fail 'rt test' "$(tail -n 5 "$scratch/log")"
+    fi
+    same 'the tests of the run functions' "$(printf '%s: test\n' "${!endings_of[@]}" | sort)" \
+        "$("$tests" --list | grep ': test$' | sort)"
+    for test in "${!endings_of[@]}"; do
+        seen=
+        for ((number = 1; number <= most; number++)); do
+            rm -f "$scratch/told"
+            ending=Whole
+            env LD_PRELOAD="$refuser" REFUSED_REQUEST=$number REFUSED_TOLD="$scratch/told" "$tests" "$test" \
+                >"$scratch/log" 2>&1 || ending=$(awk '/ left: / { found = $NF } END { print found ? found : "Crashed" }' "$scratch/log")
+            [[ $seen = *" $ending" ]] || seen+=" $ending"
+            [ -e "$scratch/told" ] || break
+        done
+        same "$test" " ${endings_of[$test]} Whole" "$seen"
+        some_refused "$test" $((number - 1))
     done
-    fail 'the run functions' 'expected: fewer than 100 requests'
 }
 
 # prepare FOLDER: makes the files that the next command finds there; none, if nothing else is said.
@@ -265,14 +209,9 @@ stated=$scratch/stated.img
 image_17 "$data" "$stated"
 bare_options=(--no-superblock --data-block-size 512 --hash-block-size 512 --salt=-)
 
-if "$compiler" -shared -fPIC -O1 -o "$refuser" tests/refuse_memory.c; then
-    formats
-    verifies
-    digests_of_files
-elif [ $short = yes ]; then
-    echo "left out: requests of the programs for memory that are refused: there is no C compiler"
-else
-    exit 1
-fi
-$run_functions
+"$compiler" -shared -fPIC -O1 -o "$refuser" tests/refuse_memory.c || exit 1
+formats
+verifies
+digests_of_files
+if [ "${1:-}" != --programs ]; then run_functions; fi
 finish

@@ -1,18 +1,21 @@
 #!/usr/bin/env bash
 # tests/run.sh PART.. [-- PART.. [-- PART..]]: runs each part, a command line in one argument, and shows its
 # output under a line that says how far the run is. The first parts run one after another, and their output is shown as
-# it comes. Parts after `--` run side by side, as many at once as there are processors, and each one's output is shown
-# whole, in the order of the parts. Those after a second `--` need nothing of the others: they begin as soon as there is
-# a processor, also beside the first ones, and give way to all others.
+# it comes; one that prints the line `the next part may begin` goes on beside what comes next. Parts after `--` run side
+# by side, as many at once as there are processors, and each one's output is shown whole, in the order of the parts.
+# Those after a second `--` need nothing of the others: they begin as soon as there is a processor, also beside the first
+# ones, and give way to all others.
 # Each part has to end with a line 'N passed, M failed', and so does the whole run, with the sums. The status is 1 if
 # anything failed, or a part ended without that line. A part says by lines 'left out: ..' what it has left out; one that
 # ends with status 77 was left out itself, and its last line says why. If MAY_BE_LEFT_OUT is set, it has patterns, each
 # on a line, and what none of them matches counts as failed if it is left out.
-# Once a minute, or every SAY_EVERY seconds, a line says which parts run, and what each one has printed last. If COMMAND
-# names a command of docs/TESTS.md, and the run took much longer than that says, a line at the end says so.
+# FIRST_LOG names what the first part has printed so far, for those that go by it; FIRST_LOG.ended is there once it has
+# ended. Once a minute, or every SAY_EVERY seconds, a line says which parts run, and what each one has printed last. If
+# COMMAND names a command of docs/TESTS.md, and the run took much longer than that says, a line at the end says so.
 set -u
 cd "$(dirname "$0")/.."
 logs=$(mktemp -d)
+export FIRST_LOG=$logs/0
 running=()
 
 # ends_all: ends what still runs, stopped parts too, and says nothing of it.
@@ -81,9 +84,11 @@ begins_next() {
     while [ "$next_free" -lt "${#parts[@]}" ] && has_processor; do begins $((next_free++)); done
 }
 
-# has_place: whether the next part may begin. Up to the first of those side by side the one before it has to have ended.
+# has_place: whether the next part may begin. Up to the first of those side by side the one before it has to have ended,
+# or to have said that the next may begin.
 has_place() {
-    if [ "$next" -gt 0 ] && [ "$next" -le $alone ] && [ -n "${running[next - 1]:-}" ]; then return 1; fi
+    if [ "$next" -gt 0 ] && [ "$next" -le $alone ] && [ -n "${running[next - 1]:-}" ] &&
+        ! grep -qx 'the next part may begin' "$logs/$((next - 1))"; then return 1; fi
     [ "$next" -lt $alone ] || has_processor
 }
 
@@ -97,7 +102,10 @@ waits() {
     local index
     read -r -t 1 <&4
     for index in "${!running[@]}"; do
-        if [ -e "$logs/$index.ended" ] || ! kill -0 "${running[$index]}" 2>/dev/null; then unset "running[$index]"; fi
+        if ! kill -0 "${running[$index]}" 2>/dev/null && [ ! -e "$logs/$index.ended" ]; then
+            echo 137 0 0 >"$logs/$index.ended"
+        fi
+        if [ -e "$logs/$index.ended" ]; then unset "running[$index]"; fi
     done
 }
 
@@ -148,9 +156,8 @@ title() {
 
 # count INDEX: adds what the last line of a part's output says, and keeps the lines of what it left out.
 count() {
-    local part=${parts[$1]} status=137 seconds=0 used=0 last good bad line
-    # What was killed has not written its status.
-    if [ -e "$logs/$1.ended" ]; then read -r status seconds used <"$logs/$1.ended"; fi
+    local part=${parts[$1]} status seconds used last good bad line
+    read -r status seconds used <"$logs/$1.ended"
     echo "== $seconds seconds, $used of processor time"
     last=$(tail -n 1 "$logs/$1")
     while IFS= read -r line; do leaves_out "${line#left out: }"; done < <(grep '^left out: ' "$logs/$1")

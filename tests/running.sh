@@ -5,7 +5,7 @@ set -u
 cd "$(dirname "$0")/.."
 . tests/lib/checks.sh
 . tests/lib/background.sh
-unset COMMAND GATE_LOG MAY_BE_LEFT_OUT RUNS SAY_EVERY SETTINGS
+unset COMMAND MAY_BE_LEFT_OUT RUNS SAY_EVERY SETTINGS
 top=$PWD
 own_path=$PATH
 mkdir -p "$scratch"/here/{.ci,bin,docs,tests/lib}
@@ -97,6 +97,10 @@ at_once() {
     rm -f ./*.made
     ran 'beside what runs alone' 0 tests/run.sh ./a ./two -- ./one -- ./b
     same 'beside what runs alone: parts' './a ./two ./one ./b' "$(sed -n 's/^== [1-4] of 4: //p' said | paste -sd ' ')"
+    rm -f ./*.made
+    part goes_on 'echo "the next part may begin"' 'awaits b.made' 'echo "1 passed, 0 failed"'
+    part next ': >a.made' 'echo "1 passed, 0 failed"'
+    ran 'beside one that lets the next begin' 0 tests/run.sh ./goes_on ./next -- ./b
     rm -f ./*.made
     part alone 'if [ -e busy ]; then exit 1; fi' ': >busy' 'sleep 0.3' 'rm busy' 'echo "1 passed, 0 failed"'
     ran 'one after another' 0 tests/run.sh ./alone ./alone -- ./alone -- ./one
@@ -231,19 +235,41 @@ rt: odd NOT PROVED
 rt: ok
 5 passed, 0 failed'
     RT_STATUS=3 ran 'a gate that fails' 3 tests/gate.sh
+    part bin/rt 'for name in verity_c fsverity_cli read_one_block; do echo "rt: $name proved"; done' \
+        'echo "rt: veritysetup_cli is kept: earlier"' 'echo "rt: low proved"'
+    ran 'a gate that has proved what is built' 0 tests/gate.sh
+    same 'a gate that has proved what is built' 'rt: veritysetup_cli is kept: earlier (4 of 3 crates)
+the next part may begin
+rt: low proved (5 of 3 crates)' "$(tail -n 3 said)"
+    mkdir -p crates/low/out/rlib
+    : >crates/low/out/rlib/stamp
+    ran 'a gate over earlier checks' 0 tests/gate.sh
+    same 'a gate over earlier checks lets nothing begin' 0 "$(grep -c 'may begin' said)"
 }
 
-# Wrong bodies are tried over what the gate has built, with a seed that the part's line names.
+# Wrong bodies are tried over what the gate proves, with a seed that the part's line names; or after it, where there are
+# earlier checks.
 gate_alone() {
+    rm -rf crates
     part tests/gate.sh 'echo "1 passed, 0 failed"'
-    part tests/wrong_bodies.sh 'echo "$GATE $SEED"' 'echo "1 passed, 0 failed"'
+    part tests/wrong_bodies.sh 'awaits "$FIRST_LOG.ended"' 'echo "$GATE $SEED, $(cat "$FIRST_LOG")"' \
+        'echo "1 passed, 0 failed"'
     SEED=7 ran 'the gate alone' 0 tests/all.sh --gate-alone
-    same 'the gate alone: parts' \
-        '== 1 of 3: tests/gate.sh|== 2 of 3: env GATE=. SEED=7 tests/wrong_bodies.sh|. 7|== 3 of 3: tests/judging.sh|' \
-        "$(grep -v 'passed\|seconds' said | tr '\n' '|')"
-    ends 'the gate alone' '3 passed, 0 failed'
+    same 'the gate alone: parts' '== 1 of 3: tests/gate.sh|1 passed, 0 failed|'\
+'== 2 of 3: env GATE=. SEED=7 tests/wrong_bodies.sh|. 7, 1 passed, 0 failed|1 passed, 0 failed|'\
+'== 3 of 3: tests/judging.sh|1 passed, 0 failed|3 passed, 0 failed|' "$(grep -v 'seconds' said | tr '\n' '|')"
+    part tests/gate.sh 'kill -KILL 0'
+    SEED=7 ran 'the gate alone, which is killed' 1 tests/all.sh --gate-alone
+    ends 'the gate alone, which is killed' 'FAILED: tests/gate.sh (status 137)' '2 passed, 1 failed'
     part tests/gate.sh 'echo "1 passed, 1 failed"' 'exit 1'
-    ran 'the gate alone, which fails' 1 tests/all.sh --gate-alone
+    part tests/wrong_bodies.sh 'echo "${GATE:-none} $SEED"' 'echo "1 passed, 0 failed"'
+    mkdir -p crates/low/out/rlib
+    : >crates/low/out/rlib/stamp
+    SEED=7 ran 'the gate alone, which fails, over earlier checks' 1 tests/all.sh --gate-alone
+    same 'the gate alone over earlier checks' \
+        '== 2 of 3: env SEED=7 tests/wrong_bodies.sh|none 7|1 passed, 0 failed|' \
+        "$(grep -v 'seconds' said | sed -n '3,5p' | tr '\n' '|')"
+    rm -r crates
     ran 'another word' 2 tests/all.sh --gate
 }
 
@@ -276,8 +302,9 @@ all_parts() {
     own=(bin/any bin/imitated/{aarch64,aarch64-static,any-Nehalem,any-core2duo,any-max} bin/static)
     SEED=7 parts_of
     same "$run: how it begins" \
-        'make test in few, few|tests/gate.sh|tests/built.sh|--|env GATE=. SEED=7 tests/wrong_bodies.sh' \
-        "$(head -n 5 said | paste -sd '|')"
+        'make test in few, few|tests/gate.sh|tests/built.sh|--|tests/soak.sh' "$(head -n 5 said | paste -sd '|')"
+    same "$run: what begins with the gate" '--|env GATE=. SEED=7 tests/wrong_bodies.sh|tests/judging.sh' \
+        "$(tail -n +6 said | grep -A 2 -x -e -- | paste -sd '|')"
     lacks kernel no_gate reproducible
     goes_over each_kind.sh "${own[@]}" bin/x86-64-v2
     for script in programs/format soak search interop/format readme; do goes_over $script.sh bin; done
@@ -288,8 +315,7 @@ all_parts() {
 
     SEED=7 parts_of --release
     same "$run: how it begins" \
-        'make release-check in all, all|tests/gate.sh|tests/built.sh|--|env GATE=. SEED=7 tests/wrong_bodies.sh' \
-        "$(head -n 5 said | paste -sd '|')"
+        'make release-check in all, all|tests/gate.sh|tests/built.sh|--|tests/kernel.sh' "$(head -n 5 said | paste -sd '|')"
     lacks no_gate reproducible
     goes_over each_kind.sh "${own[@]}"
     goes_over programs/format.sh "${own[@]}" bin/x86-64-v2 bin/x86-64-v3

@@ -9,24 +9,26 @@ Usage: tests/wrong_bodies.sh [--anew] [--only WORD] [--sample NUMBER [--seed SEE
 What is tried are the bodies without a verdict that holds; with --anew all of them. The verdicts are written to
 tests/wrong_bodies/verdicts/. With --sample nothing is written, and so many of the bodies whose verdict holds are drawn
 and tried too: each has to come to the verdict that is kept. --only takes the bodies whose name has the word. If GATE
-names a folder whose crates were just proved, their libraries are taken from there; otherwise `rt ci` proves the crates
-below first, in a copy. The last line is 'N passed, M failed'.
+names a folder whose crates were just proved, or are being proved as FIRST_LOG says (tests/run.sh), libraries are taken
+from there; otherwise `rt ci` proves the crates below first, in a copy. The last line is 'N passed, M failed'.
 """
 
 import argparse
 import concurrent.futures
 import os
 import random
+import re
 import signal
 import subprocess
 import sys
 import tempfile
+import time
 
 sys.dont_write_bytecode = True
 
 from bodies import bodies_of, changes_of
 from checks import Checks, Tests
-from crates import Crate, Crates, copy_crates, link
+from crates import Crate, Crates, copy_crates, link, text_of
 from groups import functions_of, groups_of, same_function, same_line
 from kept import Kept, Sums
 from report import Report
@@ -59,33 +61,37 @@ class Work:
 
 
 class Run:
-    """All that is tried in a run, on as many processors as there are, and as memory allows."""
+    """All that is tried in a run, on as many processors as there are, and as memory allows: half of it beside a gate."""
 
     def __init__(self, crates, report, sums, words, room):
         self.crates, self.report, self.sums, self.words, self.room = crates, report, sums, words, room
-        with open("/proc/meminfo", encoding="utf-8") as lines:
-            free = next(int(it.split()[1]) * 1024 for it in lines if it.startswith("MemAvailable:"))
-        at_once = int(os.environ.get("AT_ONCE", max(1, min(len(os.sched_getaffinity(0)), free // NEEDED_MEMORY))))
+        free = int(re.search(r"MemAvailable: +(\d+)", text_of("/proc/meminfo"))[1]) << 10
+        by_memory = free // (NEEDED_MEMORY << ("FIRST_LOG" in os.environ))
+        at_once = int(os.environ.get("AT_ONCE", max(1, min(len(os.sched_getaffinity(0)), by_memory))))
         self.pool, self.running = concurrent.futures.ThreadPoolExecutor(at_once), {}
 
     def begin(self, call, *given, then):
         self.running[self.pool.submit(call, *given)] = then
 
     def go_over(self, works, libraries):
-        """Tries all, what takes longest first."""
-        checks, tests = Checks(kit(), libraries, self.room), Tests(self.crates.top, kit(), self.room)
-        works = [it for it in works if it.tried]
-        self.report.whole = sum(len(it.of(lambda change: True)) for it in works)
-        for work in sorted(works, key=lambda it: -len(it.of(lambda change: True))):
-            missing = [it for it in self.crates.below(work.crate.name) if not os.path.isdir(f"{libraries}/{it}.rlib")]
-            if missing:
-                lost = Verdict("nothing", f"{missing[0]}, a crate below its own, isn't proved")
+        """Tries all, what takes longest first; the bodies of a crate once those below are proved."""
+        kit = os.path.dirname(subprocess.run(["rt", "doc"], stdout=subprocess.PIPE, check=True, text=True).stdout.strip())
+        checks, tests = Checks(kit, libraries.folder, self.room), Tests(self.crates.top, kit, self.room)
+        waiting = sorted((it for it in works if it.tried), key=lambda it: -len(it.of(lambda change: True)))
+        self.report.whole = sum(len(it.of(lambda change: True)) for it in waiting)
+        self.begin_tests(waiting, tests)
+        while waiting or self.running:
+            are_all = not libraries.log or os.path.exists(f"{libraries.log}.ended")
+            lacking = {it: libraries.lacking(it.crate.name) for it in waiting}
+            for work in [it for it in waiting if are_all or not lacking[it]]:
+                waiting.remove(work)
+                if not lacking[work]:
+                    self.begin_checks(work, checks)
+                    continue
+                lost = Verdict("nothing", f"{lacking[work]}, a crate below its own, isn't proved")
                 self.tell(work, {it: lost for it in work.of(lambda it: it.has_to_prove() or not it.body.test)})
-            else:
-                self.begin_checks(work, checks)
-        self.begin_tests(works, tests)
-        while self.running:
-            for it in concurrent.futures.wait(self.running, return_when=concurrent.futures.FIRST_COMPLETED).done:
+            time.sleep(1)
+            for it in [it for it in self.running if it.done()]:
                 self.running.pop(it)(it.result())
 
     def begin_checks(self, work, checks):
@@ -126,8 +132,7 @@ class Run:
             if name in lost:
                 self.tell(work, {change: Verdict("nothing", f"{name} of {crate}: {lost[name]}")})
             else:
-                then = lambda verdict, change=change, work=work: self.tell(work, {change: verdict})
-                self.begin(tests.caught, change, then=then)
+                self.begin(tests.caught, change, then=lambda it, change=change, work=work: self.tell(work, {change: it}))
 
     def tell(self, work, verdicts):
         """Says what changes came to. Once all of a body have, its verdict is kept, or compared with the one that is."""
@@ -152,29 +157,33 @@ class Run:
             self.report.fail(body.label(), f"the verdict that is kept is another: {before}")
 
 
-def kit():
-    """The folder of the toolchain."""
-    return os.path.dirname(subprocess.run(["rt", "doc"], stdout=subprocess.PIPE, check=True, text=True).stdout.strip())
+class Libraries:
+    """A folder with the libraries of the crates below some, as far as they are proved: by a gate that has ended, by one
+    that still runs, or here."""
 
+    def __init__(self, crates, names, room):
+        self.crates, self.folder, self.at = crates, f"{room}/libraries", os.environ.get("GATE")
+        self.log, below = self.at and os.environ.get("FIRST_LOG"), {it for name in names for it in crates.below(name)}
+        os.mkdir(self.folder)
+        if below and not self.at:
+            self.at = f"{room}/gate"
+            copy_crates(crates.top, self.at, below)
+            with open(f"{self.at}/crates.txt", "w", encoding="utf-8") as lines:
+                lines.writelines(f"{it}: {' '.join(crates.listed[it][0])}\n" for it in below)
+            how = dict.fromkeys(("stdin", "stdout", "stderr"), subprocess.DEVNULL)
+            subprocess.run(["rt", "ci"], cwd=self.at, **how)
 
-def libraries_of(crates, names, room):
-    """A folder with the libraries of the crates below these, as far as they are proved. What has a stamp in the folder of
-    a gate is of an earlier check, which the gate has put back."""
-    at, below = os.environ.get("GATE"), sorted({it for name in names for it in crates.below(name)})
-    is_gates = at and not any(os.path.exists(f"{at}/crates/{it}/out/rlib/stamp") for it in below)
-    if below and not is_gates:
-        at = f"{room}/gate"
-        copy_crates(crates.top, at, below)
-        with open(f"{at}/crates.txt", "w", encoding="utf-8") as lines:
-            for name in below:
-                lines.write(f"{name}{' staticlib' * crates.listed[name][1]}: {' '.join(crates.listed[name][0])}\n")
-        with open(f"{room}/gate.log", "w", encoding="utf-8") as said:
-            subprocess.run(["rt", "ci"], cwd=at, stdin=subprocess.DEVNULL, stdout=said, stderr=subprocess.STDOUT)
-    os.mkdir(f"{room}/libraries")
-    for name in below:
-        if os.path.isdir(f"{at}/crates/{name}/out/rlib/{name}.rlib"):
-            link(f"{at}/crates/{name}/out/rlib/{name}.rlib", f"{room}/libraries/{name}.rlib")
-    return f"{room}/libraries"
+    def lacking(self, name):
+        """A crate below this one whose library isn't there; nothing if all are. A gate that runs says when one is whole."""
+        said = text_of(self.log) if self.log else ""
+        for it in self.crates.below(name):
+            at, to = f"{self.at}/crates/{it}/out/rlib/{it}.rlib", f"{self.folder}/{it}.rlib"
+            is_whole = not self.log or re.search(rf"^rt: {it} (proved|is kept)", said, re.M)
+            if is_whole and os.path.isdir(at) and not os.path.isdir(to):
+                link(at, to)
+            if not os.path.isdir(to):
+                return it
+        return None
 
 
 def work_of(name, words, crates, report, sums):
@@ -217,7 +226,7 @@ def tried(words, room):
         work.tried.append(body)
     report.passed += sum(len(work.changes[body]) for work, body in holding if body not in work.tried)
     names = [it.crate.name for it in works if it.tried]
-    Run(crates, report, sums, words, room).go_over(works, libraries_of(crates, names, room))
+    Run(crates, report, sums, words, room).go_over(works, Libraries(crates, names, room))
     return report.end()
 
 
