@@ -58,9 +58,12 @@ run_functions() {
         for ((number = 1; number <= most; number++)); do
             rm -f "$scratch/told"
             ending=Whole
-            env LD_PRELOAD="$refuser" REFUSED_REQUEST=$number REFUSED_TOLD="$scratch/told" "$tests" "$test" \
-                >"$scratch/log" 2>&1 || ending=$(awk '/ left: / { found = $NF } END { print found ? found : "Crashed" }' "$scratch/log")
-            [[ $seen = *" $ending" ]] || seen+=" $ending"
+            # The shell would say of each test that is aborted that it is.
+            {
+                env LD_PRELOAD="$refuser" REFUSED_REQUEST=$number REFUSED_TOLD="$scratch/told" "$tests" "$test" \
+                    >"$scratch/log" 2>&1 || ending=$(sed -n 's/^ *left: //p' "$scratch/log")
+            } 2>/dev/null
+            [[ $seen = *" $ending" ]] || seen+=" ${ending:-Crashed}"
             [ -e "$scratch/told" ] || break
         done
         same "$test" " ${endings_of[$test]} Whole" "$seen"
