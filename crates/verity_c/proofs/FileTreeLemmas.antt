@@ -11,15 +11,15 @@ use Rattle.verity_tree.specs.declared.feed_fault.FeedFault.{FeedFault}
 use Rattle.verity_tree.specs.declared.file_tree_builder.FileFed.{FileFed}
 use Rattle.verity_tree.specs.declared.file_tree_builder.FileHashBlock.{FileHashBlock}
 use Rattle.verity_tree.specs.declared.file_tree_builder.FileTreeBuilder.{FileTreeBuilder}
-use Rattle.verity_c.specs.FileTrees.{HandsOutOfFile, IsFedTreeTo, TakesFilePiece, fed_by_file, fed_of_file}
-use Rattle.verity_c.specs.FileTrees.{tree_builder_of, with_last_block, with_tree_end}
-use Rattle.verity_c.specs.Parameters.{fsverity_tree_of}
-use Rattle.verity_c.specs.Statuses.{fault_of_feed}
-use Rattle.verity_c.specs.declared.build.VerityBuild.{VerityBuild}
-use Rattle.verity_c.specs.declared.build.VerityFed.{VerityFed}
-use Rattle.verity_c.specs.declared.fault.Fault.{Fault}
-use Rattle.verity_c.specs.declared.parameters.FsverityParams.{FsverityParams}
-use Rattle.verity_c.proofs.ParameterLemmas.{one_value}
+use Rattle.verity_c_api.specs.FileTrees.{HandsOutOfFile, IsFedTreeTo, TakesFilePiece, fed_by_file, fed_of_file}
+use Rattle.verity_c_api.specs.FileTrees.{tree_builder_of, with_last_block, with_tree_end}
+use Rattle.verity_c_api.specs.Parameters.{fsverity_tree_of}
+use Rattle.verity_c_api.specs.Statuses.{fault_of_feed}
+use Rattle.verity_c_api.specs.declared.build.VerityBuild.{VerityBuild}
+use Rattle.verity_c_api.specs.declared.build.VerityFed.{VerityFed}
+use Rattle.verity_c_api.specs.declared.fault.Fault.{Fault}
+use Rattle.verity_c_api.specs.declared.parameters.FsverityParams.{FsverityParams}
+use Rattle.verity_c_api.proofs.ParameterLemmas.{one_value}
 
 -- a builder is that of its settings and its two numbers
 tree_builder_of-parts : (s : TreeSettingsFields) (b : FileTreeBuilder) → b.settings ≡ s

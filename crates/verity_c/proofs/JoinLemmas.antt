@@ -18,15 +18,15 @@ use Rattle.verity_tree.specs.declared.join_builder.JoinBuilder.{JoinBuilder}
 use Rattle.verity_tree.specs.declared.part_builder.PartFault.{PartFault}
 use Rattle.verity_tree.specs.declared.tree_builder.Fed.{Fed}
 use Rattle.verity_tree.specs.declared.tree_builder.HashBlock.{HashBlock}
-use Rattle.verity_c.specs.Building.{fed_by, fed_of, unless}
-use Rattle.verity_c.specs.Parts.{AreNextDigests, HandsOutOfJoin, IsJoinedTo, StandsLastOfJoin, TakesDigests}
-use Rattle.verity_c.specs.Parts.{join_builder_of, last_index_of_join, last_of_join, last_of_join_in, with_digests}
-use Rattle.verity_c.specs.Parts.{with_joined_file, with_parts}
-use Rattle.verity_c.specs.Answers.{value_or}
-use Rattle.verity_c.specs.declared.build.VerityFed.{VerityFed}
-use Rattle.verity_c.specs.declared.build.VerityJoin.{VerityJoin}
-use Rattle.verity_c.specs.declared.fault.Fault.{Fault}
-use Rattle.verity_c.specs.declared.fault.Fault.TheVariants.{Length, Root}
+use Rattle.verity_c_api.specs.Building.{fed_by, fed_of, unless}
+use Rattle.verity_c_api.specs.Parts.{AreNextDigests, HandsOutOfJoin, IsJoinedTo, StandsLastOfJoin, TakesDigests}
+use Rattle.verity_c_api.specs.Parts.{join_builder_of, last_index_of_join, last_of_join, last_of_join_in, with_digests}
+use Rattle.verity_c_api.specs.Parts.{with_joined_file, with_parts}
+use Rattle.verity_c_api.specs.Answers.{value_or}
+use Rattle.verity_c_api.specs.declared.build.VerityFed.{VerityFed}
+use Rattle.verity_c_api.specs.declared.build.VerityJoin.{VerityJoin}
+use Rattle.verity_c_api.specs.declared.fault.Fault.{Fault}
+use Rattle.verity_c_api.specs.declared.fault.Fault.TheVariants.{Length, Root}
 
 -- the numbers of a builder, of which with its plan it is made
 abbrev pub join_of : JoinBuilder → VerityJoin

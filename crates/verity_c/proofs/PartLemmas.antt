@@ -9,12 +9,12 @@ use Rattle.verity_tree.specs.Parts.{FeedsPart, IsFedPart, IsHandedOutOfPart, IsP
 use Rattle.verity_tree.specs.declared.part_builder.PartBuilder.{PartBuilder}
 use Rattle.verity_tree.specs.declared.tree_builder.Fed.{Fed}
 use Rattle.verity_tree.specs.declared.tree_builder.HashBlock.{HashBlock}
-use Rattle.verity_c.specs.Building.{fed_by, fed_of}
-use Rattle.verity_c.specs.Parts.{HandsOutOfPart, IsFedPartTo, StandsLastOfPart, TakesPartPiece, part_builder_of}
-use Rattle.verity_c.specs.declared.build.VerityFed.{VerityFed}
-use Rattle.verity_c.specs.declared.build.VerityPart.{VerityPart}
-use Rattle.verity_c.specs.declared.fault.Fault.{Fault}
-use Rattle.verity_c.proofs.BuildingLemmas.{taken_is}
+use Rattle.verity_c_api.specs.Building.{fed_by, fed_of}
+use Rattle.verity_c_api.specs.Parts.{HandsOutOfPart, IsFedPartTo, StandsLastOfPart, TakesPartPiece, part_builder_of}
+use Rattle.verity_c_api.specs.declared.build.VerityFed.{VerityFed}
+use Rattle.verity_c_api.specs.declared.build.VerityPart.{VerityPart}
+use Rattle.verity_c_api.specs.declared.fault.Fault.{Fault}
+use Rattle.verity_c_api.proofs.BuildingLemmas.{taken_is}
 
 -- the numbers of a builder, of which with its plan it is made
 abbrev pub part_of : PartBuilder → VerityPart

@@ -2,14 +2,15 @@
 //! digest is signed.
 ghost use Rattle.std.specs.Prelude.{◌≡◌, length};
 ghost use Rattle.verity_hash.specs.Hashing.{algorithm_named};
-ghost use Rattle.verity_c.specs.Answers.{value_or};
-ghost use Rattle.verity_c.specs.Parameters.{algorithm_of};
-ghost use Rattle.verity_c.specs.Statuses.{status_of};
-ghost use Rattle.verity_c.specs.Algorithms.{digest_length_in, formatted_in, name_in, name_length_in, number_in_name};
+ghost use Rattle.verity_c_api.specs.Answers.{value_or};
+ghost use Rattle.verity_c_api.specs.Parameters.{algorithm_of};
+ghost use Rattle.verity_c_api.specs.Statuses.{status_of};
+ghost use Rattle.verity_c_api.specs.Algorithms.{digest_length_in, formatted_in, name_in, name_length_in};
+ghost use Rattle.verity_c_api.specs.Algorithms.{number_in_name};
 
-use crate::fault::{DONE, Fault};
 use crate::plans::{algorithm_of, number_of};
 use crate::texts::put_text;
+use verity_c_api::{DONE, Fault};
 use verity_format::formatted_digest;
 use verity_hash::{Algorithm, Digest};
 

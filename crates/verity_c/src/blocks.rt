@@ -1,12 +1,11 @@
 //! Checking a data block by the hash blocks above it.
 ghost use Rattle.std.specs.Prelude.{◌≡◌, ◌==◌, length, Some, None, if◌then◌else◌};
 ghost use Rattle.verity_plan.specs.Settings.{digest_len};
-ghost use Rattle.verity_c.specs.Answers.{AnswersBlock, with_root};
-ghost use Rattle.verity_c.specs.Parameters.{fsverity_plan_of, plan_of};
+ghost use Rattle.verity_c_api.specs.Answers.{AnswersBlock, with_root};
+ghost use Rattle.verity_c_api.specs.Parameters.{fsverity_plan_of, plan_of};
 
-use crate::fault::{Fault, path_status};
-use crate::parameters::{FsverityParams, VerityParams};
 use crate::plans::{fsverity_plan_of, plan_of};
+use verity_c_api::{Fault, FsverityParams, VerityParams, path_status};
 use verity_hash::Digest;
 use verity_plan::{Plan, TreeSettings};
 use verity_tree::{PathFault, check_block};

@@ -1,12 +1,11 @@
 //! The parameters of a tree for which nothing is chosen.
 ghost use Rattle.std.specs.Prelude.{◌≡◌};
-ghost use Rattle.verity_c.specs.Answers.{default_params_in, value_or};
-ghost use Rattle.verity_c.specs.Parameters.{default_params};
-ghost use Rattle.verity_c.specs.Statuses.{status_of};
+ghost use Rattle.verity_c_api.specs.Answers.{default_params_in, value_or};
+ghost use Rattle.verity_c_api.specs.Parameters.{default_params};
+ghost use Rattle.verity_c_api.specs.Statuses.{status_of};
 
-use crate::fault::DONE;
-use crate::parameters::VerityParams;
 use crate::plans::{number_of, plan_of};
+use verity_c_api::{DONE, VerityParams};
 use verity_hash::Algorithm;
 use verity_plan::HashType;
 

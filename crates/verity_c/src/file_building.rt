@@ -1,15 +1,14 @@
 //! Building a file's fs-verity tree as pieces of the file come, whose length isn't known before.
 ghost use Rattle.std.specs.Prelude.{◌≡◌, ◌≢◌, ◌+◌, ℕ, List, [], ◌++◌, length, Err, IfErr, IfOk, Ok};
-ghost use Rattle.verity_c.specs.Answers.{value_or};
-ghost use Rattle.verity_c.specs.Building.{IsFedFileTo, digest_of_fed, file_memory_length_in, file_memory_length_of};
-ghost use Rattle.verity_c.specs.Building.{file_root_in, with_file_end, with_file_memory, with_file_piece};
-ghost use Rattle.verity_c.specs.Parameters.{fsverity_settings_of, fsverity_tree_of};
-ghost use Rattle.verity_c.specs.Statuses.{done, status_of};
+ghost use Rattle.verity_c_api.specs.Answers.{value_or};
+ghost use Rattle.verity_c_api.specs.Building.{IsFedFileTo, digest_of_fed, file_memory_length_in, file_memory_length_of};
+ghost use Rattle.verity_c_api.specs.Building.{file_root_in, with_file_end, with_file_memory, with_file_piece};
+ghost use Rattle.verity_c_api.specs.Parameters.{fsverity_settings_of, fsverity_tree_of};
+ghost use Rattle.verity_c_api.specs.Statuses.{done, status_of};
 
-use crate::fault::{DONE, Fault};
 use crate::files::{fsverity_file_digest, set_digest};
-use crate::parameters::FsverityParams;
 use crate::plans::{fsverity_settings_of, fsverity_tree_of};
+use verity_c_api::{DONE, Fault, FsverityParams};
 use verity_plan::{SettingFault, TreeSettings};
 use verity_tree::FileBuilder;
 

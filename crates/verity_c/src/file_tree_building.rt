@@ -1,19 +1,17 @@
 //! Building a file's fs-verity tree as pieces of the file come, whose length isn't known before, with each hash block
 //! handed out.
 ghost use Rattle.std.specs.Prelude.{◌≡◌, ◌≢◌, ◌<◌, ℕ, List, [], ◌++◌, length, take, IfOk};
-ghost use Rattle.verity_c.specs.Answers.{value_or};
-ghost use Rattle.verity_c.specs.Building.{digest_of_fed, file_root_in, with_file_memory};
-ghost use Rattle.verity_c.specs.FileTrees.{HandsOutOfFile, IsFedTreeTo, TakesFilePiece, fed_of_file, last_block_in};
-ghost use Rattle.verity_c.specs.FileTrees.{end_index_in, with_last_block, with_tree_end, with_tree_piece};
-ghost use Rattle.verity_c.specs.Parameters.{fsverity_tree_of};
-ghost use Rattle.verity_c.specs.Statuses.{done, status_of};
+ghost use Rattle.verity_c_api.specs.Answers.{value_or};
+ghost use Rattle.verity_c_api.specs.Building.{digest_of_fed, file_root_in, with_file_memory};
+ghost use Rattle.verity_c_api.specs.FileTrees.{HandsOutOfFile, IsFedTreeTo, TakesFilePiece, fed_of_file, last_block_in};
+ghost use Rattle.verity_c_api.specs.FileTrees.{end_index_in, with_last_block, with_tree_end, with_tree_piece};
+ghost use Rattle.verity_c_api.specs.Parameters.{fsverity_tree_of};
+ghost use Rattle.verity_c_api.specs.Statuses.{done, status_of};
 
-use crate::build::{VerityBuild, VerityFed};
-use crate::fault::{DONE, Fault};
 use crate::file_building::tree_in;
 use crate::files::{fsverity_file_digest, set_digest};
-use crate::parameters::FsverityParams;
 use crate::plans::fsverity_settings_of;
+use verity_c_api::{DONE, Fault, FsverityParams, VerityBuild, VerityFed};
 use verity_plan::TreeSettings;
 use verity_tree::{FileFed, FileTreeBuilder};
 

@@ -1,13 +1,12 @@
 //! The descriptor and the file digest of fs-verity.
 ghost use Rattle.std.specs.Prelude.{◌≡◌, length};
-ghost use Rattle.verity_c.specs.Answers.{descriptor_bytes_in, descriptor_in, file_digest_in, value_or};
-ghost use Rattle.verity_c.specs.Parameters.{fsverity_tree_of};
-ghost use Rattle.verity_c.specs.Statuses.{status_of};
+ghost use Rattle.verity_c_api.specs.Answers.{descriptor_bytes_in, descriptor_in, file_digest_in, value_or};
+ghost use Rattle.verity_c_api.specs.Parameters.{fsverity_tree_of};
+ghost use Rattle.verity_c_api.specs.Statuses.{status_of};
 
 use crate::blocks::root_from_bytes;
-use crate::fault::{DONE, Fault};
-use crate::parameters::FsverityParams;
 use crate::plans::fsverity_tree_of;
+use verity_c_api::{DONE, Fault, FsverityParams};
 use verity_format::{Descriptor, file_digest, write_descriptor};
 use verity_hash::Digest;
 

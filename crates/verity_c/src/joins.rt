@@ -2,21 +2,20 @@
 ghost use Rattle.std.specs.Prelude.{◌≡◌, ◌≢◌, ◌≤◌, ℕ, List, length, take, IfOk, Ok};
 ghost use Rattle.verity_plan.specs.PlanCounts.{level_count_of};
 ghost use Rattle.verity_tree.specs.Parts.{counts_none_closed, join_length};
-ghost use Rattle.verity_c.specs.Answers.{value_or};
-ghost use Rattle.verity_c.specs.Building.{root_in};
-ghost use Rattle.verity_c.specs.Parameters.{fsverity_plan_of, plan_of};
-ghost use Rattle.verity_c.specs.Parts.{AreNextDigests, HandsOutOfJoin, IsJoinedTo, StandsLastOfJoin, TakesDigests};
-ghost use Rattle.verity_c.specs.Parts.{begun_join, file_digest_of, join_builder_of, join_memory_in, last_of_join_in};
-ghost use Rattle.verity_c.specs.Parts.{with_digests, with_join_memory, with_joined, with_joined_file, with_parts};
-ghost use Rattle.verity_c.specs.Statuses.{done, status_of};
+ghost use Rattle.verity_c_api.specs.Answers.{value_or};
+ghost use Rattle.verity_c_api.specs.Building.{root_in};
+ghost use Rattle.verity_c_api.specs.Parameters.{fsverity_plan_of, plan_of};
+ghost use Rattle.verity_c_api.specs.Parts.{AreNextDigests, HandsOutOfJoin, IsJoinedTo, StandsLastOfJoin, TakesDigests};
+ghost use Rattle.verity_c_api.specs.Parts.{begun_join, file_digest_of, join_builder_of, join_memory_in};
+ghost use Rattle.verity_c_api.specs.Parts.{last_of_join_in};
+ghost use Rattle.verity_c_api.specs.Parts.{with_digests, with_join_memory, with_joined, with_joined_file, with_parts};
+ghost use Rattle.verity_c_api.specs.Statuses.{done, status_of};
 
-use crate::build::{VerityFed, VerityJoin};
-use crate::fault::{DONE, Fault};
 use crate::files::{fsverity_file_digest, set_digest};
-use crate::parameters::{FsverityParams, VerityParams};
 use crate::parts::plan_with_level;
 use crate::plans::{fsverity_plan_of, plan_of};
 use crate::tree_building::fed_of;
+use verity_c_api::{DONE, Fault, FsverityParams, VerityFed, VerityJoin, VerityParams};
 use verity_plan::Plan;
 use verity_tree::{Fed, JoinBuilder};
 

@@ -1,12 +1,12 @@
 //! How many levels a tree has, where each begins, and where the hash blocks above a data block stand.
 ghost use Rattle.std.specs.Prelude.{◌≡◌};
-ghost use Rattle.verity_c.specs.Answers.{level_blocks_in, level_count_in, level_start_in, hash_block_start_in, value_or};
-ghost use Rattle.verity_c.specs.Parameters.{fsverity_plan_of, plan_of};
-ghost use Rattle.verity_c.specs.Statuses.{status_of};
+ghost use Rattle.verity_c_api.specs.Answers.{level_blocks_in, level_count_in, level_start_in, hash_block_start_in};
+ghost use Rattle.verity_c_api.specs.Answers.{value_or};
+ghost use Rattle.verity_c_api.specs.Parameters.{fsverity_plan_of, plan_of};
+ghost use Rattle.verity_c_api.specs.Statuses.{status_of};
 
-use crate::fault::{DONE, Fault};
-use crate::parameters::{FsverityParams, VerityParams};
 use crate::plans::{fsverity_plan_of, plan_of};
+use verity_c_api::{DONE, Fault, FsverityParams, VerityParams};
 use verity_plan::Plan;
 
 /// How many levels of hash blocks the tree has, 0 for a single data block (Linux kernel, dm-verity page, "Hash Tree").

@@ -1,23 +1,19 @@
 //! The library for C, `libverity`: superblocks, descriptors, plans and checks of dm-verity and fs-verity, and trees
 //! that are built as their data comes, for programs that aren't written in Rattle. Each export says again what the
-//! libraries below prove of it. `include/verity.h` has the same functions in C, with what a caller owes: pointers and
-//! lengths that are right. Nothing is required of a value, so whatever numbers, bytes and structs are handed in, a call
-//! returns with its answer.
+//! libraries below prove of it, by the definitions of `verity_c_api`. `include/verity.h` has the same functions in C,
+//! with what a caller owes: pointers and lengths that are right. Nothing is required of a value, so whatever numbers,
+//! bytes and structs are handed in, a call returns with its answer.
 #![tactic(auto)]
 
 mod algorithms;
 mod blocks;
-mod build;
 mod defaults;
-mod fault;
 mod file_building;
 mod file_tree_building;
 mod files;
 mod joins;
-pub mod laws;
 mod levels;
 mod links;
-mod parameters;
 mod parts;
 mod plans;
 mod same;
@@ -32,7 +28,6 @@ pub use algorithms::{
     verity_digest_length,
 };
 pub use blocks::{fsverity_check_block, verity_check_block};
-pub use build::{VerityBuild, VerityFed, VerityJoin, VerityPart};
 pub use defaults::verity_default_params;
 pub use file_building::{
     fsverity_build_begin, fsverity_build_end, fsverity_build_feed, fsverity_build_memory,
@@ -52,7 +47,6 @@ pub use levels::{
     verity_level_count, verity_level_start,
 };
 pub use links::{fsverity_check_link, fsverity_check_top, verity_check_link, verity_check_top};
-pub use parameters::{FsverityParams, VerityParams};
 pub use parts::{
     fsverity_part_begin, fsverity_part_count, fsverity_part_end, fsverity_part_feed,
     fsverity_part_last_block, fsverity_part_memory, verity_part_begin, verity_part_count,
@@ -65,5 +59,8 @@ pub use texts::verity_status_text;
 pub use tree_building::{
     verity_build_begin, verity_build_end, verity_build_feed, verity_build_last_block,
     verity_build_memory,
+};
+pub use verity_c_api::{
+    FsverityParams, VerityBuild, VerityFed, VerityJoin, VerityParams, VerityPart, laws,
 };
 pub use version::verity_version;

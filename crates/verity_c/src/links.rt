@@ -1,12 +1,11 @@
 //! Checking one block by the hash block above it, or by the root hash.
 ghost use Rattle.std.specs.Prelude.{◌≡◌};
-ghost use Rattle.verity_c.specs.Answers.{link_status_in, top_status_in, with_root};
-ghost use Rattle.verity_c.specs.Parameters.{fsverity_plan_of, plan_of};
+ghost use Rattle.verity_c_api.specs.Answers.{link_status_in, top_status_in, with_root};
+ghost use Rattle.verity_c_api.specs.Parameters.{fsverity_plan_of, plan_of};
 
 use crate::blocks::root_from_bytes;
-use crate::fault::{Fault, link_status};
-use crate::parameters::{FsverityParams, VerityParams};
 use crate::plans::{fsverity_plan_of, plan_of};
+use verity_c_api::{Fault, FsverityParams, VerityParams, link_status};
 use verity_plan::Plan;
 use verity_tree::{check_link, check_top};
 

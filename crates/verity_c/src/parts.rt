@@ -4,20 +4,18 @@ ghost use Rattle.std.specs.Prelude.{◌≡◌, ◌≢◌, ◌≤◌, ℕ, List, 
 ghost use Rattle.verity_plan.specs.PlanCounts.{level_count_of};
 ghost use Rattle.verity_tree.specs.Feeding.{feeding_length};
 ghost use Rattle.verity_tree.specs.Parts.{HasPart, piece_fault, plan_of_part};
-ghost use Rattle.verity_c.specs.Answers.{value_or};
-ghost use Rattle.verity_c.specs.Parameters.{fsverity_plan_of, plan_of};
-ghost use Rattle.verity_c.specs.Parts.{HandsOutOfPart, IsDigestOfFed, IsFedPartTo, StandsLastOfPart, TakesPartPiece};
-ghost use Rattle.verity_c.specs.Parts.{begun_part, last_of_part_in, part_builder_of, part_count_in, part_memory_in};
-ghost use Rattle.verity_c.specs.Parts.{part_blocks_in, with_part, with_part_fed, with_part_memory, with_part_piece};
-ghost use Rattle.verity_c.specs.Parts.{with_parts};
-ghost use Rattle.verity_c.specs.Statuses.{done, status_of};
+ghost use Rattle.verity_c_api.specs.Answers.{value_or};
+ghost use Rattle.verity_c_api.specs.Parameters.{fsverity_plan_of, plan_of};
+ghost use Rattle.verity_c_api.specs.Parts.{HandsOutOfPart, IsDigestOfFed, IsFedPartTo, StandsLastOfPart};
+ghost use Rattle.verity_c_api.specs.Parts.{TakesPartPiece, begun_part, last_of_part_in, part_builder_of, part_count_in};
+ghost use Rattle.verity_c_api.specs.Parts.{part_memory_in, part_blocks_in, with_part, with_part_fed, with_part_memory};
+ghost use Rattle.verity_c_api.specs.Parts.{with_part_piece, with_parts};
+ghost use Rattle.verity_c_api.specs.Statuses.{done, status_of};
 
-use crate::build::{VerityFed, VerityPart};
-use crate::fault::{DONE, Fault};
 use crate::files::set_digest;
-use crate::parameters::{FsverityParams, VerityParams};
 use crate::plans::{fsverity_plan_of, plan_of};
 use crate::tree_building::fed_of;
+use verity_c_api::{DONE, Fault, FsverityParams, VerityFed, VerityParams, VerityPart};
 use verity_plan::Plan;
 use verity_tree::{Fed, FeedFault, PartBuilder};
 

@@ -1,11 +1,9 @@
 //! The settings and plans that parameters make.
 ghost use Rattle.std.specs.Prelude.{◌≡◌, ◌≤◌, length, take};
-ghost use Rattle.verity_c.specs.Parameters.{algorithm_of, fsverity_plan_of, fsverity_settings_of, fsverity_tree_of};
-ghost use Rattle.verity_c.specs.Parameters.{if_salt_fits, number_of};
-ghost use Rattle.verity_c.specs.Parameters.{plan_of, tree_of};
+ghost use Rattle.verity_c_api.specs.Parameters.{algorithm_of, fsverity_plan_of, fsverity_settings_of, fsverity_tree_of};
+ghost use Rattle.verity_c_api.specs.Parameters.{if_salt_fits, number_of, plan_of, tree_of};
 
-use crate::fault::Fault;
-use crate::parameters::{FsverityParams, VerityParams};
+use verity_c_api::{Fault, FsverityParams, VerityParams};
 use verity_hash::Algorithm;
 use verity_plan::{HashType, Plan, SettingFault, TreeSettings, multiple_of, offset_unit, plan_at};
 

@@ -1,11 +1,10 @@
 //! Whether parameters are those that are trusted.
 ghost use Rattle.std.specs.Prelude.{◌≡◌, ◌↔◌, true};
-ghost use Rattle.verity_c.specs.Parameters.{plan_of};
-ghost use Rattle.verity_c.specs.Same.{AnswersSame};
+ghost use Rattle.verity_c_api.specs.Parameters.{plan_of};
+ghost use Rattle.verity_c_api.specs.Same.{AnswersSame};
 
-use crate::fault::{DONE, Fault};
-use crate::parameters::VerityParams;
 use crate::plans::plan_of;
+use verity_c_api::{DONE, Fault, VerityParams};
 use verity_plan::TreeSettings;
 
 /// Whether parameters, as those that were read of a superblock that an attacker may have written, are the trusted ones

@@ -1,12 +1,11 @@
 //! How much room a tree takes.
 ghost use Rattle.std.specs.Prelude.{◌≡◌};
-ghost use Rattle.verity_c.specs.Answers.{hash_area_end_in, value_or};
-ghost use Rattle.verity_c.specs.Parameters.{fsverity_plan_of, plan_of};
-ghost use Rattle.verity_c.specs.Statuses.{status_of};
+ghost use Rattle.verity_c_api.specs.Answers.{hash_area_end_in, value_or};
+ghost use Rattle.verity_c_api.specs.Parameters.{fsverity_plan_of, plan_of};
+ghost use Rattle.verity_c_api.specs.Statuses.{status_of};
 
-use crate::fault::{DONE, Fault};
-use crate::parameters::{FsverityParams, VerityParams};
 use crate::plans::{fsverity_plan_of, plan_of};
+use verity_c_api::{DONE, Fault, FsverityParams, VerityParams};
 use verity_plan::Plan;
 
 /// The byte of the hash device at which the hash area ends, after the last hash block (cryptsetup's on-disk format page;

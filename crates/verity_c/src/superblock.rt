@@ -3,13 +3,12 @@ ghost use Rattle.std.specs.Prelude.{◌≡◌, ◌≤◌, length, None};
 ghost use Rattle.verity_hash.specs.Hashing.{with_zeros};
 ghost use Rattle.verity_plan.specs.Settings.{most_verity_salt};
 ghost use Rattle.verity_format.specs.CheckedSuperblocks.{superblock_fault};
-ghost use Rattle.verity_c.specs.Answers.{ReadsParameters, superblock_in, superblock_status, value_or};
-ghost use Rattle.verity_c.specs.Parameters.{parameters_of, plan_of};
-ghost use Rattle.verity_c.specs.Statuses.{status_of};
+ghost use Rattle.verity_c_api.specs.Answers.{ReadsParameters, superblock_in, superblock_status, value_or};
+ghost use Rattle.verity_c_api.specs.Parameters.{parameters_of, plan_of};
+ghost use Rattle.verity_c_api.specs.Statuses.{status_of};
 
-use crate::fault::{DONE, Fault};
-use crate::parameters::VerityParams;
 use crate::plans::{number_of, plan_of};
+use verity_c_api::{DONE, Fault, VerityParams};
 use verity_format::laws::bytes_say_a_superblock_or_fail_a_test;
 use verity_format::{Superblock, read_superblock, write_superblock};
 use verity_plan::SUPERBLOCK_SIZE;

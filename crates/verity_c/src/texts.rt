@@ -1,10 +1,10 @@
 //! What a status means, in words, and how a text is written for C.
 ghost use Rattle.std.specs.Prelude.{◌≡◌};
-ghost use Rattle.verity_c.specs.Answers.{value_or};
-ghost use Rattle.verity_c.specs.Statuses.{status_of};
-ghost use Rattle.verity_c.specs.Texts.{text_length_in, text_of_fault, text_of_status, with_text};
+ghost use Rattle.verity_c_api.specs.Answers.{value_or};
+ghost use Rattle.verity_c_api.specs.Statuses.{status_of};
+ghost use Rattle.verity_c_api.specs.Texts.{text_length_in, text_of_fault, text_of_status, with_text};
 
-use crate::fault::{DONE, Fault};
+use verity_c_api::{DONE, Fault};
 
 /// A status in words, in English, without a full stop, and a zero after them. A number that is no status of verity.h is
 /// said to be unknown. The length is that of the words alone; up to 63 bytes.

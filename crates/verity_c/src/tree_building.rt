@@ -1,16 +1,15 @@
 //! Building a dm-verity tree as pieces of its data come.
 ghost use Rattle.std.specs.Prelude.{◌≡◌, ◌≢◌, ◌<◌, ℕ, List, [], ◌++◌, length, take, IfOk};
-ghost use Rattle.verity_c.specs.Answers.{value_or};
-ghost use Rattle.verity_c.specs.Building.{HandsOut, IsFedTo, StandsLast, TakesPiece, fed_of, last_in, memory_length_in};
-ghost use Rattle.verity_c.specs.Building.{memory_length_of, root_in, with_all_fed, with_memory, with_piece};
-ghost use Rattle.verity_c.specs.Parameters.{plan_of};
-ghost use Rattle.verity_c.specs.Statuses.{done, status_of};
+ghost use Rattle.verity_c_api.specs.Answers.{value_or};
+ghost use Rattle.verity_c_api.specs.Building.{HandsOut, IsFedTo, StandsLast, TakesPiece, fed_of, last_in};
+ghost use Rattle.verity_c_api.specs.Building.{memory_length_in};
+ghost use Rattle.verity_c_api.specs.Building.{memory_length_of, root_in, with_all_fed, with_memory, with_piece};
+ghost use Rattle.verity_c_api.specs.Parameters.{plan_of};
+ghost use Rattle.verity_c_api.specs.Statuses.{done, status_of};
 
-use crate::build::{VerityBuild, VerityFed};
-use crate::fault::{DONE, Fault};
 use crate::files::set_digest;
-use crate::parameters::VerityParams;
 use crate::plans::plan_of;
+use verity_c_api::{DONE, Fault, VerityBuild, VerityFed, VerityParams};
 use verity_plan::Plan;
 use verity_tree::{Fed, TreeBuilder};
 

@@ -3,10 +3,11 @@ use Rattle.verity_format.specs.Descriptors.{digest_of_file}
 use Rattle.verity_hash.specs.Hashing.{digest_len_of}
 use Rattle.verity_plan.specs.Settings.{TreeSettingsFields}
 use Rattle.verity_tree.specs.Levels.{root_of_file}
-use Rattle.verity_c.specs.Answers.{value_or}
-use Rattle.verity_c.specs.Building.{digest_of_fed, file_builder_of, file_root_in}
-use Rattle.verity_c.specs.declared.fault.Fault.{Fault}
-use Rattle.verity_c.proofs.BuildingLemmas.{IsFedFileTo-at, IsFedFileTo-of, file_digest_in-ok, file_root-set, file_size}
+use Rattle.verity_c_api.specs.Answers.{value_or}
+use Rattle.verity_c_api.specs.Building.{digest_of_fed, file_builder_of, file_root_in}
+use Rattle.verity_c_api.specs.declared.fault.Fault.{Fault}
+use Rattle.verity_c_api.proofs.BuildingLemmas.{IsFedFileTo-at, IsFedFileTo-of, file_digest_in-ok, file_root-set}
+use Rattle.verity_c_api.proofs.BuildingLemmas.{file_size}
 use Rattle.verity_c.proofs.file_building.fsverity_build_end.Goals as goal
 
 pub returns-in-Ok-end-clause-root : goal.returns-in-Ok-end-clause-root

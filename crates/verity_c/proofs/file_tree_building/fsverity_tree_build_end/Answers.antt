@@ -3,13 +3,13 @@ use Rattle.verity_format.specs.Descriptors.{digest_of_file}
 use Rattle.verity_hash.specs.Hashing.{digest_len_of}
 use Rattle.verity_plan.specs.Settings.{TreeSettingsFields}
 use Rattle.verity_tree.specs.Levels.{root_of_file}
-use Rattle.verity_c.specs.Answers.{value_or}
-use Rattle.verity_c.specs.Building.{digest_of_fed}
-use Rattle.verity_c.specs.Statuses.{status_of}
-use Rattle.verity_c.specs.declared.fault.Fault.{Fault}
-use Rattle.verity_c.proofs.BuildingLemmas.{file_digest_in-ok}
+use Rattle.verity_c_api.specs.Answers.{value_or}
+use Rattle.verity_c_api.specs.Building.{digest_of_fed}
+use Rattle.verity_c_api.specs.Statuses.{status_of}
+use Rattle.verity_c_api.specs.declared.fault.Fault.{Fault}
+use Rattle.verity_c_api.proofs.BuildingLemmas.{file_digest_in-ok}
 use Rattle.verity_c.proofs.FileTreeLemmas.{IsFedTreeTo-at, with_tree_end-ok}
-use Rattle.verity_c.proofs.ParameterLemmas.{tree_of_sized}
+use Rattle.verity_c_api.proofs.ParameterLemmas.{tree_of_sized}
 use Rattle.verity_c.proofs.file_tree_building.fsverity_tree_build_end.Goals as goal
 
 pub returns-in-Ok-end-clause-status : goal.returns-in-Ok-end-clause-status

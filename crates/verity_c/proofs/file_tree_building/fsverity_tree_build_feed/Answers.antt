@@ -1,6 +1,6 @@
 use Rattle.std.proofs.Common.{◌++◌, ℕ, take, subst, sym}
-use Rattle.verity_c.specs.FileTrees.{IsFedTreeTo}
-use Rattle.verity_c.specs.declared.build.VerityBuild.{VerityBuild}
+use Rattle.verity_c_api.specs.FileTrees.{IsFedTreeTo}
+use Rattle.verity_c_api.specs.declared.build.VerityBuild.{VerityBuild}
 use Rattle.verity_c.proofs.FileTreeLemmas.{HandsOutOfFile-at, IsFedTreeTo-at, IsFedTreeTo-of, TakesFilePiece-at}
 use Rattle.verity_c.proofs.FileTreeLemmas.{taken_of_file}
 use Rattle.verity_c.proofs.file_tree_building.fsverity_tree_build_feed.Goals as goal

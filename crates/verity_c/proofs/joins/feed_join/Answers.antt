@@ -2,8 +2,8 @@ use Rattle.std.proofs.Common.{ap, subst, take, ℕ, ◌∙◌}
 use Rattle.verity_tree.specs.declared.join_builder.JoinBuilder.{JoinBuilder}
 use Rattle.verity_c.proofs.JoinLemmas.{AreNextDigests-at, HandsOutOfJoin-at, IsJoinedTo-at, IsJoinedTo-of}
 use Rattle.verity_c.proofs.JoinLemmas.{TakesDigests-at}
-use Rattle.verity_c.proofs.BuildingLemmas.{taken_is}
-use Rattle.verity_c.specs.Parts.{AreNextDigests}
+use Rattle.verity_c_api.proofs.BuildingLemmas.{taken_is}
+use Rattle.verity_c_api.specs.Parts.{AreNextDigests}
 use Rattle.verity_c.proofs.joins.feed_join.Goals as goal
 
 pub returns-in-Ok-feed-clause-takes : goal.returns-in-Ok-feed-clause-takes

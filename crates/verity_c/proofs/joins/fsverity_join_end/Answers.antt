@@ -4,15 +4,15 @@ use Rattle.verity_plan.specs.Plans.{PlanFields}
 use Rattle.verity_plan.specs.Settings.{digest_len}
 use Rattle.verity_tree.specs.Levels.{data_blocks, root}
 use Rattle.verity_tree.specs.declared.join_builder.JoinBuilder.{JoinBuilder}
-use Rattle.verity_c.specs.Answers.{value_or}
-use Rattle.verity_c.specs.Building.{root_in}
-use Rattle.verity_c.specs.Parts.{file_digest_of, join_builder_of, with_join_memory, with_joined_file}
+use Rattle.verity_c_api.specs.Answers.{value_or}
+use Rattle.verity_c_api.specs.Building.{root_in}
+use Rattle.verity_c_api.specs.Parts.{file_digest_of, join_builder_of, with_join_memory, with_joined_file}
 use Rattle.verity_tree.specs.Parts.{join_fault}
-use Rattle.verity_c.specs.Statuses.{status_of}
-use Rattle.verity_c.specs.declared.fault.Fault.{Fault}
-use Rattle.verity_c.proofs.BuildingLemmas.{file_digest_in-ok}
+use Rattle.verity_c_api.specs.Statuses.{status_of}
+use Rattle.verity_c_api.specs.declared.fault.Fault.{Fault}
+use Rattle.verity_c_api.proofs.BuildingLemmas.{file_digest_in-ok}
 use Rattle.verity_c.proofs.JoinLemmas.{IsJoinedTo-at, with_joined_file-ok}
-use Rattle.verity_c.proofs.ParameterLemmas.{file_plan-made}
+use Rattle.verity_c_api.proofs.ParameterLemmas.{file_plan-made}
 use Rattle.verity_c.proofs.joins.fsverity_join_end.Goals as goal
 
 pub returns-in-Ok-end-clause-refused : goal.returns-in-Ok-end-clause-refused

@@ -1,4 +1,4 @@
-use Rattle.verity_c.proofs.ReadLemmas.{filled}
+use Rattle.verity_c_api.proofs.ReadLemmas.{filled}
 use Rattle.verity_c.proofs.superblock.salt_field.Goals as goal
 
 pub returns : goal.returns

@@ -1,6 +1,6 @@
 use Rattle.std.proofs.Common.{Option, sym, subst}
 use Rattle.verity_format.specs.declared.super_fault.SuperFault.{SuperFault}
-use Rattle.verity_c.specs.Answers.{ReadsParameters}
+use Rattle.verity_c_api.specs.Answers.{ReadsParameters}
 use Rattle.verity_c.proofs.superblock.verity_read_superblock.Goals as goal
 
 pub returns-in-Ok-clause-params : goal.returns-in-Ok-clause-params

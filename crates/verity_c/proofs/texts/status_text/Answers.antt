@@ -3,8 +3,9 @@ use Rattle.std.proofs.Common.{w32, ◌∙◌}
 use Rattle.std.proofs.lemmas.Bool.Decides.{nat_tests}
 use Rattle.std.proofs.lemmas.Int.{to_z-of_z}
 use Rattle.std.specs.Prelude.{◌==◌, codes, int_lt, unsigned_abs}
-use Rattle.verity_c.specs.Texts.{fault_numbered, text_of_fault, text_of_fault_or_none, text_of_number, text_of_status}
-use Rattle.verity_c.specs.declared.fault.Fault.{Fault}
+use Rattle.verity_c_api.specs.Texts.{fault_numbered, text_of_fault, text_of_fault_or_none, text_of_number}
+use Rattle.verity_c_api.specs.Texts.{text_of_status}
+use Rattle.verity_c_api.specs.declared.fault.Fault.{Fault}
 use Rattle.verity_c.proofs.texts.status_text.Goals as goal
 
 -- the text of a number that a fault has

@@ -2,10 +2,10 @@ use Rattle.std.proofs.Common.{◌≡◌, ℕ, List, Result, length, ap, refl, sy
 use Rattle.verity_plan.specs.Plans.{PlanFields}
 use Rattle.verity_tree.specs.Levels.{data_blocks, root}
 use Rattle.verity_tree.proofs.RootLemmas.{length-root}
-use Rattle.verity_c.specs.Answers.{value_or}
-use Rattle.verity_c.specs.Building.{builder_of, root_in}
-use Rattle.verity_c.specs.declared.fault.Fault.{Fault}
-use Rattle.verity_c.proofs.BuildingLemmas.{IsFedTo-at, IsFedTo-of}
+use Rattle.verity_c_api.specs.Answers.{value_or}
+use Rattle.verity_c_api.specs.Building.{builder_of, root_in}
+use Rattle.verity_c_api.specs.declared.fault.Fault.{Fault}
+use Rattle.verity_c_api.proofs.BuildingLemmas.{IsFedTo-at, IsFedTo-of}
 use Rattle.verity_c.proofs.tree_building.verity_build_end.Goals as goal
 
 pub returns-in-Ok-end-clause-root : goal.returns-in-Ok-end-clause-root

@@ -1,7 +1,7 @@
 use Rattle.std.proofs.Common.{◌++◌, ℕ, take, subst, sym}
-use Rattle.verity_c.specs.Building.{IsFedTo}
-use Rattle.verity_c.specs.declared.build.VerityBuild.{VerityBuild}
-use Rattle.verity_c.proofs.BuildingLemmas.{HandsOut-at, IsFedTo-at, IsFedTo-of, TakesPiece-at, taken_is}
+use Rattle.verity_c_api.specs.Building.{IsFedTo}
+use Rattle.verity_c_api.specs.declared.build.VerityBuild.{VerityBuild}
+use Rattle.verity_c_api.proofs.BuildingLemmas.{HandsOut-at, IsFedTo-at, IsFedTo-of, TakesPiece-at, taken_is}
 use Rattle.verity_c.proofs.tree_building.verity_build_feed.Goals as goal
 
 pub returns-in-Ok-feed-clause-takes : goal.returns-in-Ok-feed-clause-takes

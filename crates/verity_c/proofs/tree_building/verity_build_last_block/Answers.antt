@@ -1,5 +1,5 @@
 use Rattle.std.proofs.Common.{sym}
-use Rattle.verity_c.proofs.BuildingLemmas.{IsFedTo-at, StandsLast-at}
+use Rattle.verity_c_api.proofs.BuildingLemmas.{IsFedTo-at, StandsLast-at}
 use Rattle.verity_c.proofs.tree_building.verity_build_last_block.Goals as goal
 
 pub returns-clause-block : goal.returns-clause-block

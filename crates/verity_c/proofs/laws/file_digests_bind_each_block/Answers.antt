@@ -1,5 +1,0 @@
-use Rattle.verity_c.proofs.TrustedBlockLemmas.{digest-binds}
-use Rattle.verity_c.proofs.laws.file_digests_bind_each_block.Goals as goal
-
-pub returns : goal.returns
-returns c = digest-binds

@@ -1,0 +1,14 @@
+pub mod BuildingLemmas
+pub mod BuildingLoopLemmas
+pub mod JoinCallLemmas
+pub mod LongestPaths
+pub mod LoopEndLemmas
+pub mod ParameterLemmas
+pub mod PartCallLemmas
+pub mod PartsLoopLemmas
+pub mod PathLengthLemmas
+pub mod ReadBackLemmas
+pub mod ReadLemmas
+pub mod StatusLemmas
+pub mod SuperblockLemmas
+pub mod TrustedBlockLemmas
