@@ -153,8 +153,8 @@
  * answers no fault: with another digest than the part's the root hash is another, unless two different blocks with one
  * salted hash were found. Parts with the same data have one digest, so there it doesn't matter whose is handed in.
  *
- * That the first loop above ends with verity_build_feed is proved, whatever stands in struct and memory. That it ends
- * with parts and joins, and that the loops for a file's tree end, is tested.
+ * It is proved that each of these loops ends, whatever stands in struct and memory, and that the tree is the same where
+ * a part was begun, given up and built again, while its data is the same.
  *
  * An image is checked by parts like this: compare each hash block that is handed out with the one that stands at its
  * place, and of the first differences of each part and of the join take the earliest: the one that closes after the

@@ -1,6 +1,7 @@
 pub mod BuildingLemmas
 pub mod BuildingLoopLemmas
 pub mod JoinCallLemmas
+pub mod KeptBlockLemmas
 pub mod LongestPaths
 pub mod LoopEndLemmas
 pub mod ParameterLemmas

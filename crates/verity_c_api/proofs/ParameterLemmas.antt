@@ -177,7 +177,7 @@ plan_from-is tree blocks None p made = by_test (blocks == 0) made
     by_test true e = absurd cc
     by_test false e = absurd cc
 
-planned-ok : (made : Result PlanFields PlanFault) (p : PlanFields) → planned made ≡ Ok p → made ≡ Ok p
+pub planned-ok : (made : Result PlanFields PlanFault) (p : PlanFields) → planned made ≡ Ok p → made ≡ Ok p
 planned-ok (Ok q) p e = cc
 planned-ok (Err fault) p e = absurd cc
 

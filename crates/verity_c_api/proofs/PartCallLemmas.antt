@@ -2,10 +2,11 @@
 use Rattle.std.proofs.Common.{◌≡◌, ℕ, ◌-◌, ◌*◌, ◌≤◌, true, false, List, [], ◌∷◌, ◌++◌, length, map, Result, Ok}
 use Rattle.std.proofs.Common.{arith, ap, refl, sym, subst, ◌∙◌, append_assoc}
 use Rattle.std.proofs.lemmas.Bool.Decides.{nat_tests}
-use Rattle.std.proofs.lemmas.List.{append-nil, length-drop, length-take, length-take-le}
+use Rattle.std.proofs.lemmas.List.{append-nil, length-drop, length-take, length-take-le, map-append}
+use Rattle.std.proofs.lemmas.List.Elements.{Contains-append_right, Contains-push}
 use Rattle.std.proofs.lemmas.List.Folds.{flat_map-map}
 use Rattle.std.proofs.Math.Nat.{mul_assoc}
-use Rattle.std.specs.List.{flat_map}
+use Rattle.std.specs.List.{Contains, flat_map}
 use Rattle.std.specs.Prelude.{◌==◌, min, nat_le, nat_lt}
 use Rattle.verity_plan.specs.Plans.{PlanFields}
 use Rattle.verity_plan.specs.PlanCounts.{level_count_of, count_under}
@@ -14,13 +15,13 @@ use Rattle.verity_tree.specs.ClosingOrder.{BlockIndex}
 use Rattle.verity_tree.specs.Feeding.{FeedCall, feeding_length}
 use Rattle.verity_tree.specs.Parts.{BuildsPartInCalls, FeedsPart, FeedsPartCalls, HasPart, IsFedPart, IsHandedOutOfPart}
 use Rattle.verity_tree.specs.Parts.{bytes_of_part, digest_of_part, handed_out_of_part, blocks_in_part, plan_of_part}
+use Rattle.verity_tree.specs.PartsBuiltAgain.{IsCallForPart as IsBuilderCall}
 use Rattle.verity_c_api.proofs.BuildingLemmas.{given-by, handed-by}
 use Rattle.verity_c_api.proofs.StatusLemmas.{room-of}
 use Rattle.verity_c_api.specs.BuildingLoop.{hash_block_by}
 use Rattle.verity_c_api.specs.Parts.{if_room, part_builder_of, with_part_fed, with_part_memory}
-use Rattle.verity_c_api.specs.PartsLoop.{AreFedPartBy, IsFedPartBy, KeptPart, PartCall, PartCalls, AreCallsOfPart}
-use Rattle.verity_c_api.specs.PartsLoop.{bytes_taken_by, feeding_calls, part_builder_call, part_end_status}
-use Rattle.verity_c_api.specs.PartsLoop.{part_in_calls}
+use Rattle.verity_c_api.specs.PartsLoop.{AreFedPartBy, IsCallForPart, IsFedPartBy, KeptPart, PartCall, PartCalls, AreCallsOfPart}
+use Rattle.verity_c_api.specs.PartsLoop.{bytes_taken_by, feeding_calls, part_builder_call, part_end_status, part_in_calls}
 use Rattle.verity_c_api.specs.Statuses.{done, status_of}
 use Rattle.verity_c_api.specs.declared.build.VerityPart.{VerityPart}
 use Rattle.verity_c_api.specs.declared.fault.Fault.{Fault}
@@ -184,4 +185,27 @@ part-built p level number bytes part enough taken =
       digest_is =
           let digest = taken.ends.digest_is fed is_fed left bytes (rw (level_is, part_is) refl) in
           rw (level_is, part_is) at digest;
+    }
+
+-- a call for a part, whether the part was given up after it or not, is one of the builder
+pub call-for_part : (p : PlanFields) (level : ℕ) (bytes : List ℕ) (call : PartCall) → IsCallForPart p level bytes call
+    → IsBuilderCall p level bytes (part_builder_call call)
+call-for_part p level bytes call taken =
+    let run : PartCalls = record { begun = taken.begun; calls = taken.before; last = call; digest = [] } in
+    let calls = map part_builder_call (feeding_calls run) in
+    record {
+      part = taken.number;
+      run = part_in_calls p run;
+      plan_is = refl;
+      level_is = ap (λ (k : VerityPart). k.level) taken.begins.begun;
+      part_is = ap (λ (k : VerityPart). k.part) taken.begins.begun;
+      begins = taken.begins.is_fed;
+      feeds = (feed-part p taken.begun taken.before call taken.feeds).feeds;
+      rest = taken.rest;
+      bytes_are = ap (λ (xs : List ℕ). xs ++ taken.rest)
+          (flat_map-map (λ (one : FeedCall). one.taken) part_builder_call (feeding_calls run)) ∙ taken.bytes_are;
+      is_call = subst (λ (xs : List FeedCall). Contains xs (part_builder_call call))
+          (sym (map-append part_builder_call taken.before (call ∷ [])))
+          (Contains-append_right (map part_builder_call taken.before) (part_builder_call call ∷ [])
+          (part_builder_call call) (Contains-push [] (part_builder_call call)));
     }

@@ -1,9 +1,7 @@
 -- Calls that build the parts of a tree, and those that join them, build the tree together: by a plan that was made, and
 -- in the end by parameters that make it.
 use Rattle.std.proofs.Common.{◌≡◌, ℕ, ◌<◌, ◌≤◌, List, [], length, Result, Ok, arith, refl}
-use Rattle.std.proofs.Common.{sym, subst}
-use Rattle.std.specs.List.{Contains}
-use Rattle.std.specs.Prelude.{◌↔◌}
+use Rattle.std.proofs.Common.{inl, inr, sym, subst}
 use Rattle.verity_plan.specs.Plans.{IsPlan, PlanFields}
 use Rattle.verity_plan.specs.PlanCounts.{count_under}
 use Rattle.verity_tree.proofs.PartCalls.{parts-build}
@@ -15,9 +13,9 @@ use Rattle.verity_tree.specs.Parts.{BuildsFromParts, PartInCalls, bytes_of_part,
 use Rattle.verity_tree.specs.TreeOnDevice.{HoldsTree}
 use Rattle.verity_c_api.proofs.JoinCallLemmas.{all_digests, join-built}
 use Rattle.verity_c_api.proofs.ParameterLemmas.{file_plan-made, plan-made}
-use Rattle.verity_c_api.proofs.PartCallLemmas.{IsPartBuilt, part-built}
+use Rattle.verity_c_api.proofs.PartCallLemmas.{IsPartBuilt, call-for_part, part-built}
 use Rattle.verity_c_api.specs.Parameters.{fsverity_plan_of, plan_of}
-use Rattle.verity_c_api.specs.PartsLoop.{BuildsTreeFromParts, JoinCalls, PartCalls, AreCallsOfJoin, AreCallsOfPart}
+use Rattle.verity_c_api.specs.PartsLoop.{AreWrites, BuildsTreeFromParts, JoinCalls, PartCalls, AreCallsOfJoin, AreCallsOfPart}
 use Rattle.verity_c_api.specs.PartsLoop.{calls_of_all, digests_of, join_in_calls, part_in_calls}
 use Rattle.verity_c_api.specs.declared.fault.Fault.{Fault}
 use Rattle.verity_c_api.specs.declared.parameters.FsverityParams.{FsverityParams}
@@ -41,17 +39,22 @@ parts-built p level bytes parts join planned enough of_parts of_join =
     let built = join-built p level bytes runs join digests
     (subst (λ (xs : List ℕ). AreCallsOfJoin (Ok p) level xs join) digests of_join) in
     let calls = calls_of_all count parts join in
-    let together : (writes : List FeedCall) (device : List ℕ)
-    → ((call : FeedCall) → Contains writes call ↔ Contains calls call)
-    → BuildsFromParts p level bytes runs (join_in_calls p join (root p.settings (data_blocks p bytes))) writes device =
-    λ writes device same. parts-build p level bytes device runs
-    (join_in_calls p join (root p.settings (data_blocks p bytes))) writes planned built.level_most
-    (λ number below. (each number below).builds) built.builds same in
+    let joined = join_in_calls p join (root p.settings (data_blocks p bytes)) in
+    let together : (writes : List FeedCall) (device : List ℕ) → AreWrites p level bytes parts join writes
+    → BuildsFromParts p level bytes runs joined writes device =
+    λ writes device written. parts-build p level bytes device runs joined writes planned built.level_most
+    (λ number below. (each number below).builds) built.builds (record {
+      all = written.all;
+      only = λ call there. elim (written.only call there) [
+        | inl one ↦ inl one
+        | inr again ↦ inr (rw again.2 (call-for_part p level bytes again.0 again.1))
+      ];
+    }) in
     record {
       part_status = λ number below. (each number below).status;
       digest_is = λ number below. (each number below).digest_is;
       is_joined = built.is_joined;
-      once = (together calls [] (λ call. (λ there. there, λ there. there))).once;
+      once = (together calls [] (record { all = λ call there. there; only = λ call there. inl there })).once;
       stands = λ writes device same. (together writes device same).stands;
       holds = λ writes device same.
           subst (λ (left : List ℕ). HoldsTree p left bytes (root p.settings (data_blocks p bytes)))

@@ -178,8 +178,8 @@ digest_of_fed (Err fault) bytes = Err fault
 digest_of_fed (Ok tree) bytes =
     Ok (digest_of_file (record { tree = tree; size = length bytes; root = root_of_file tree (length bytes) bytes }))
 
--- for a private function, not needed to read a public contract: what a builder has answered, in the numbers of the
--- struct
+-- for a private function of `verity_c`, not needed to read a public contract: what a builder has answered, in the
+-- numbers of the struct
 abbrev pub fed_by : ℕ → ℕ → Option HashBlock → VerityFed
 fed_by size taken None = without_block taken
 fed_by size taken (Some block) = record {

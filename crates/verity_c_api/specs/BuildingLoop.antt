@@ -1,6 +1,7 @@
 -- The loop that verity.h shows: a tree is built by calls of verity_build_feed, and each hash block that is handed out
--- is written. What such calls have answered, and what is there when the last one hands out none.
-use Rattle.std.specs.Prelude.{◌≡◌, ◌≢◌, ◌⊎◌, ⊤, ℕ, ◌==◌, List, [], ◌∷◌, ◌++◌, length, map, take, drop, Option, Some}
+-- is written. What such calls have answered, and what is there when the last one hands out none. Of the loop for a
+-- file's tree, by calls of fsverity_tree_build_feed, it is said only when it goes on.
+use Rattle.std.specs.Prelude.{◌≡◌, ◌≢◌, ◌⊎◌, ◌<◌, ⊤, ℕ, ◌==◌, List, [], ◌∷◌, ◌++◌, length, map, take, drop, Option, Some}
 use Rattle.std.specs.Prelude.{None, Ok, IfOk, if◌then◌else◌}
 use Rattle.std.specs.List.{flat_map}
 use Rattle.verity_plan.specs.Plans.{PlanFields}
@@ -10,11 +11,13 @@ use Rattle.verity_tree.specs.Levels.{data_blocks, root}
 use Rattle.verity_tree.specs.TreeOnDevice.{HoldsTree}
 use Rattle.verity_tree.specs.declared.tree_builder.HashBlock.{HashBlock}
 use Rattle.verity_c_api.specs.Building.{HandsOut, IsFedTo, TakesPiece, block_of, root_in, with_all_fed, with_memory}
-use Rattle.verity_c_api.specs.Building.{with_piece}
-use Rattle.verity_c_api.specs.Parameters.{plan_of}
+use Rattle.verity_c_api.specs.Building.{with_file_memory, with_piece}
+use Rattle.verity_c_api.specs.FileTrees.{TakesFilePiece, with_tree_piece}
+use Rattle.verity_c_api.specs.Parameters.{fsverity_tree_of, plan_of}
 use Rattle.verity_c_api.specs.Statuses.{done, status_of}
 use Rattle.verity_c_api.specs.declared.build.VerityBuild.{VerityBuild}
 use Rattle.verity_c_api.specs.declared.build.VerityFed.{VerityFed}
+use Rattle.verity_c_api.specs.declared.parameters.FsverityParams.{FsverityParams}
 use Rattle.verity_c_api.specs.declared.parameters.VerityParams.{VerityParams}
 
 -- what is kept between two calls
@@ -110,3 +113,18 @@ pub record BuildsTree (params : VerityParams) (p : PlanFields) (bytes : List ℕ
       status_of (with_all_fed (with_memory (plan_of params) (length kept.memory)) kept.build (digest_len p.settings))
       ≡ done
   pub root_is : root_in (plan_of params) bytes ≡ Ok (root p.settings (data_blocks p bytes))
+
+-- fsverity_tree_build_feed has answered with status 0
+pub record IsFedTreeBy (params : FsverityParams) (before : Kept) (call : FeedingCall) : Type 0 where
+  pub status : status_of (with_tree_piece
+      (with_file_memory (fsverity_tree_of params) (length before.memory)) before.build (length call.piece))
+      ≡ done
+  pub takes : IfOk (fsverity_tree_of params)
+      (λ tree. TakesFilePiece tree before.build call.after.build (length call.piece) call.fed)
+
+-- calls of the loop for a file's tree that have each left bytes of the piece, so that it goes on; struct and memory may
+-- be any
+unfoldable pub TreeGoesOn : FsverityParams → Kept → List ℕ → List FeedingCall → Type 0
+TreeGoesOn params before piece [] = ⊤
+TreeGoesOn params before piece (call ∷ rest) = (call.piece ≡ piece) × IsFedTreeBy params before call
+    × (call.fed.taken < length piece) × TreeGoesOn params call.after (drop call.fed.taken piece) rest

@@ -89,8 +89,8 @@ pub record HandsOutOfFile (tree : TreeSettingsFields) (before after : VerityBuil
       ≡ handed_out (plan_of_file tree size) before.fed before.closed ++ given_by fed
   pub block : fed.block_length ≢ 0 → IsFinal tree bytes memory (file_block_of fed)
 
--- for a private function, not needed to read a public contract: what a builder has answered, in the numbers of the
--- struct
+-- for a private function of `verity_c`, not needed to read a public contract: what a builder has answered, in the
+-- numbers of the struct
 abbrev pub fed_by_file : ℕ → ℕ → Option FileHashBlock → VerityFed
 fed_by_file size taken None = without_block taken
 fed_by_file size taken (Some block) = record {

@@ -3,6 +3,7 @@ pub mod Parameters
 pub mod Answers
 pub mod ReadBack
 pub mod TrustedBlocks
+pub mod KeptBlocks
 pub mod Building
 pub mod Texts
 pub mod FileTrees

@@ -1,9 +1,10 @@
 -- The calls that verity.h shows for parts: a tree is built from parts by calls of verity_part_feed for each of them,
 -- apart from the others, and joined by calls of verity_join_feed; and each hash block that is handed out is written.
--- What such calls have answered, and what is there when the last ones hand out none. The plan is what parameters of
--- either format make: so all this is said of the functions whose names begin with verity_, and of those whose names
--- begin with fsverity_.
-use Rattle.std.specs.Prelude.{◌≡◌, ◌↔◌, ◌<◌, ⊤, ℕ, ℤ, List, [], ◌∷◌, ◌++◌, length, map, take, Result, Ok, IfOk}
+-- What such calls have answered, and what is there when the last ones hand out none; also when their loops go on, and
+-- what may be written besides if a part was given up. The plan is what parameters of either format make: so all this is
+-- said of the functions whose names begin with verity_, and of those whose names begin with fsverity_.
+use Rattle.std.specs.Prelude.{◌≡◌, ◌≢◌, ◌⊎◌, ◌<◌, ⊤, ℕ, ℤ, List, [], ◌∷◌, ◌++◌, length, map, take, drop}
+use Rattle.std.specs.Prelude.{Result, Ok, IfOk}
 use Rattle.std.specs.List.{Contains, flat_map, range_with_len}
 use Rattle.verity_format.specs.Descriptors.{digest_of_file}
 use Rattle.verity_plan.specs.Plans.{PlanFields}
@@ -12,15 +13,15 @@ use Rattle.verity_plan.specs.Settings.{digest_len, fan}
 use Rattle.verity_tree.specs.ClosingOrder.{closed_after, times}
 use Rattle.verity_tree.specs.Feeding.{FeedCall, given, written_all}
 use Rattle.verity_tree.specs.Levels.{data_blocks, root}
-use Rattle.verity_tree.specs.Parts.{JoinInCalls, PartInCalls, digest_of_part}
+use Rattle.verity_tree.specs.Parts.{JoinInCalls, PartInCalls, bytes_of_part, digest_of_part}
 use Rattle.verity_tree.specs.TreeOnDevice.{HoldsTree}
 use Rattle.verity_tree.specs.TreeWriting.{tree_on_device}
 use Rattle.verity_c_api.specs.Building.{root_in}
 use Rattle.verity_c_api.specs.BuildingLoop.{hash_block_by}
-use Rattle.verity_c_api.specs.Parts.{AreNextDigests, HandsOutOfJoin, HandsOutOfPart, IsDigestOfFed, IsFedPartTo}
-use Rattle.verity_c_api.specs.Parts.{IsJoinedTo, TakesDigests, TakesPartPiece, begun_join, begun_part, file_digest_of}
-use Rattle.verity_c_api.specs.Parts.{join_builder_of, part_builder_of, with_digests, with_join_memory, with_joined}
-use Rattle.verity_c_api.specs.Parts.{with_joined_file, with_part_fed, with_part_memory, with_part_piece}
+use Rattle.verity_c_api.specs.Parts.{AreNextDigests, HandsOutOfJoin, HandsOutOfPart, IsDigestOfFed, IsFedPartTo, IsJoinedTo}
+use Rattle.verity_c_api.specs.Parts.{TakesDigests, TakesPartPiece, begun_join, begun_part, file_digest_of, join_builder_of}
+use Rattle.verity_c_api.specs.Parts.{part_builder_of, with_digests, with_join_memory, with_joined, with_joined_file}
+use Rattle.verity_c_api.specs.Parts.{with_part_fed, with_part_memory, with_part_piece}
 use Rattle.verity_c_api.specs.Statuses.{done, status_of}
 use Rattle.verity_c_api.specs.declared.build.VerityFed.{VerityFed}
 use Rattle.verity_c_api.specs.declared.build.VerityJoin.{VerityJoin}
@@ -66,6 +67,12 @@ unfoldable pub AreFedPartBy : Result PlanFields Fault → KeptPart → List Part
 AreFedPartBy made before [] = ⊤
 AreFedPartBy made before (call ∷ rest) = IsFedPartBy made before call × AreFedPartBy made call.after rest
 
+-- calls of the loop that have each handed out a hash block, so that it goes on; struct and memory may be any
+unfoldable pub PartGoesOn : Result PlanFields Fault → KeptPart → List ℕ → List PartCall → Type 0
+PartGoesOn made before piece [] = ⊤
+PartGoesOn made before piece (call ∷ rest) = (call.piece ≡ piece) × IsFedPartBy made before call
+    × (call.fed.block_length ≢ 0) × PartGoesOn made call.after (drop call.fed.taken piece) rest
+
 -- the status of verity_part_end, with room for so many bytes of a digest
 abbrev pub part_end_status : Result PlanFields Fault → KeptPart → ℕ → ℤ
 part_end_status made kept room = status_of
@@ -96,6 +103,17 @@ pub record AreCallsOfPart (made : Result PlanFields Fault) (level number : ℕ) 
   pub none_left : part.last.fed.block_length ≡ 0
   pub bytes_are : flat_map bytes_taken_by (feeding_calls part) ≡ bytes
   pub ends : IsLeftByPartEnd made part.last.after part.digest
+
+-- a call of verity_part_feed for a part of a level, after calls from the part's first byte on, in a run that was perhaps
+-- given up after it
+pub record IsCallForPart (p : PlanFields) (level : ℕ) (bytes : List ℕ) (call : PartCall) : Type 0 where
+  pub number : ℕ
+  pub begun : KeptPart
+  pub before : List PartCall
+  pub begins : IsBegunPart (Ok p) level number begun
+  pub feeds : AreFedPartBy (Ok p) begun (before ++ call ∷ [])
+  pub rest : List ℕ
+  pub bytes_are : flat_map bytes_taken_by (before ++ call ∷ []) ++ rest ≡ bytes_of_part p level number bytes
 
 -- what is kept of a join between two calls
 pub record KeptJoin : Type 0 where
@@ -136,6 +154,12 @@ pub record IsJoinedBy (made : Result PlanFields Fault) (before : KeptJoin) (call
 unfoldable pub AreJoinedBy : Result PlanFields Fault → KeptJoin → List JoinCall → Type 0
 AreJoinedBy made before [] = ⊤
 AreJoinedBy made before (call ∷ rest) = IsJoinedBy made before call × AreJoinedBy made call.after rest
+
+-- calls of the loop that have each handed out a hash block, so that it goes on; struct and memory may be any
+unfoldable pub JoinGoesOn : Result PlanFields Fault → KeptJoin → List ℕ → List JoinCall → Type 0
+JoinGoesOn made before digests [] = ⊤
+JoinGoesOn made before digests (call ∷ rest) = (call.digests ≡ digests) × IsJoinedBy made before call
+    × (call.fed.block_length ≢ 0) × JoinGoesOn made call.after (drop call.fed.taken digests) rest
 
 -- the calls for the join: what verity_join_begin left, and the calls of verity_join_feed, the last one by itself
 pub record JoinCalls : Type 0 where
@@ -203,10 +227,20 @@ calls_of_all count parts join =
     flat_map (λ number. map part_builder_call (feeding_calls (parts number))) (range_with_len 0 count)
     ++ map join_builder_call (joining_calls join)
 
+-- these are the calls of all parts and of the join, in whatever order and each as often as one likes, and perhaps calls
+-- for parts that were given up
+pub record AreWrites (p : PlanFields) (level : ℕ) (bytes : List ℕ) (parts : ℕ → PartCalls) (join : JoinCalls)
+    (writes : List FeedCall) : Type 0 where
+  pub all : (call : FeedCall) → Contains (calls_of_all (count_under p level) parts join) call → Contains writes call
+  pub only : (call : FeedCall) → Contains writes call
+      → Contains (calls_of_all (count_under p level) parts join) call
+      ⊎ ((again : PartCall) × IsCallForPart p level bytes again × (call ≡ part_builder_call again))
+
 -- the calls have built the tree above these bytes from the parts of a level. verity_part_end answers 0 for each part,
 -- with its digest. Each hash block was handed out once. Written where the calls said, in whatever order and as often as
--- one likes, they leave a device as building the tree at once does, so that it holds the tree. And verity_join_end
--- answers 0, with the root hash, or fsverity_join_end, with the file digest too
+-- one likes, also where a part was given up and built again, they leave a device as building the tree at once does, so
+-- that it holds the tree. And verity_join_end answers 0, with the root hash, or fsverity_join_end, with the file digest
+-- too
 pub record BuildsTreeFromParts (made : Result PlanFields Fault) (p : PlanFields) (level : ℕ) (bytes : List ℕ)
     (parts : ℕ → PartCalls) (join : JoinCalls) : Type 0 where
   pub part_status : (number : ℕ) → number < count_under p level
@@ -217,11 +251,9 @@ pub record BuildsTreeFromParts (made : Result PlanFields Fault) (p : PlanFields)
   pub once : (l j : ℕ)
       → times l j (flat_map (λ call. given call.hash_block) (calls_of_all (count_under p level) parts join))
       ≡ times l j (closed_after (fan p.settings) p.blocks p.blocks)
-  pub stands : (writes : List FeedCall) (device : List ℕ)
-      → ((call : FeedCall) → Contains writes call ↔ Contains (calls_of_all (count_under p level) parts join) call)
+  pub stands : (writes : List FeedCall) (device : List ℕ) → AreWrites p level bytes parts join writes
       → written_all p writes device ≡ tree_on_device p (data_blocks p bytes) device
-  pub holds : (writes : List FeedCall) (device : List ℕ)
-      → ((call : FeedCall) → Contains writes call ↔ Contains (calls_of_all (count_under p level) parts join) call)
+  pub holds : (writes : List FeedCall) (device : List ℕ) → AreWrites p level bytes parts join writes
       → HoldsTree p (written_all p writes device) bytes (root p.settings (data_blocks p bytes))
   pub status : join_end_status made join.last.after (digest_len p.settings) ≡ done
   pub root_is : root_in made bytes ≡ Ok (root p.settings (data_blocks p bytes))

@@ -1,23 +1,30 @@
 //! Laws of what the library for C answers.
-ghost use Rattle.std.specs.Prelude.{◌≡◌, ◌⊎◌, ℕ, ℤ, ◌+◌, ◌%◌, ◌*◌, ◌≤◌, ◌^◌, ◌<◌, true, List, [], ◌∷◌, ◌++◌, codes, length, Ok};
+ghost use Rattle.std.specs.Prelude.{◌≡◌, ◌≢◌, ◌⊎◌, ℕ, ℤ, ◌+◌, ◌-◌, ◌/◌, ◌%◌, ◌*◌, ◌≤◌, ◌^◌, ◌<◌, true, List, [], ◌∷◌};
+ghost use Rattle.std.specs.Prelude.{◌++◌, Result, Ok, codes, length};
 ghost use Rattle.std.specs.List.{flat_map};
 ghost use Rattle.verity_format.specs.Superblocks.{IsValidSuperblock, SuperblockFields, superblock_bytes};
-ghost use Rattle.verity_plan.specs.PlanCounts.{level_count_of, count_under};
+ghost use Rattle.verity_plan.specs.PlanCounts.{level_count_of, count_under, most_level_count};
 ghost use Rattle.verity_plan.specs.Plans.{PlanFields, plan_at, superblock_size};
-ghost use Rattle.verity_plan.specs.Settings.{TreeSettingsFields};
+ghost use Rattle.verity_plan.specs.Settings.{TreeSettingsFields, digest_len};
+ghost use Rattle.verity_tree.specs.Levels.{data_blocks, root};
+ghost use Rattle.verity_tree.specs.KeptBlocks.{AreTrueOrCollide, CheckedBlock};
 ghost use Rattle.verity_tree.specs.Parts.{bytes_of_part};
 ghost use Rattle.verity_c_api.specs.Answers.{superblock_in};
-ghost use Rattle.verity_c_api.specs.Statuses.{done, fault_status};
+ghost use Rattle.verity_c_api.specs.FileTrees.{with_last_block};
+ghost use Rattle.verity_c_api.specs.Statuses.{done, fault_status, status_of};
 ghost use Rattle.verity_c_api.specs.Texts.{text_of_fault, text_of_status};
-ghost use Rattle.verity_c_api.specs.declared.fault.Fault.{Fault};
-ghost use Rattle.verity_c_api.specs.Building.{digest_of_fed, file_memory_length_of, memory_length_of};
-ghost use Rattle.verity_c_api.specs.BuildingLoop.{AreFedBy, BuildsTree, FedPiece, FeedingCall, FeedsPieces, IsBegun};
-ghost use Rattle.verity_c_api.specs.BuildingLoop.{Kept, GoesOn, bytes_of, calls_of, taken_by};
+ghost use Rattle.verity_c_api.specs.Building.{digest_of_fed, file_memory_length_of, memory_length_of, with_file_memory};
+ghost use Rattle.verity_c_api.specs.BuildingLoop.{AreFedBy, BuildsTree, FedPiece, FeedingCall, FeedsPieces, GoesOn};
+ghost use Rattle.verity_c_api.specs.BuildingLoop.{IsBegun, Kept, TreeGoesOn, bytes_of, calls_of, taken_by};
 ghost use Rattle.verity_c_api.specs.Parameters.{fsverity_plan_of, fsverity_tree_of, parameters_of, plan_of, planned};
-ghost use Rattle.verity_c_api.specs.PartsLoop.{AreCallsOfJoin, AreCallsOfPart, BuildsTreeFromParts, JoinCalls};
-ghost use Rattle.verity_c_api.specs.PartsLoop.{PartCalls, digests_of};
+ghost use Rattle.verity_c_api.specs.PartsLoop.{AreCallsOfJoin, AreCallsOfPart, BuildsTreeFromParts, JoinCall};
+ghost use Rattle.verity_c_api.specs.PartsLoop.{JoinCalls, JoinGoesOn, KeptJoin, KeptPart, PartCall, PartCalls};
+ghost use Rattle.verity_c_api.specs.PartsLoop.{PartGoesOn, digests_of};
 ghost use Rattle.verity_c_api.specs.ReadBack.{HasFields, IsReadBack, read_back};
+ghost use Rattle.verity_c_api.specs.KeptBlocks.{AreAcceptedByCalls};
 ghost use Rattle.verity_c_api.specs.TrustedBlocks.{FileBlock, IsAcceptedFor, IsBlockOf, ShowsCollision};
+ghost use Rattle.verity_c_api.specs.declared.build.VerityBuild.{VerityBuild};
+ghost use Rattle.verity_c_api.specs.declared.fault.Fault.{Fault};
 ghost use Rattle.verity_c_api.specs.declared.parameters.FsverityParams.{FsverityParams};
 ghost use Rattle.verity_c_api.specs.declared.parameters.VerityParams.{VerityParams};
 
@@ -88,6 +95,20 @@ pub fn file_digests_bind_each_block()
         → IsBlockOf tree bytes b ⊎ ShowsCollision tree bytes b }
 {}
 
+/// Blocks that calls accept one after another, the top one by the root hash of some data and each other by one that was
+/// accepted before it at its parent's place, are all the tree's, whichever are kept, forgotten and read again in between;
+/// or one of them is not, and has the salted hash of the tree's block at its place.
+pub fn kept_blocks_are_true()
+    ensures verity { (params : VerityParams) (p : PlanFields) (bytes : List ℕ) (count : ℕ) (blocks : ℕ → CheckedBlock)
+        → plan_of params ≡ Ok p
+        → AreAcceptedByCalls (plan_of params) p (root p.settings (data_blocks p bytes)) count blocks
+        → AreTrueOrCollide p bytes count blocks }
+    ensures fsverity { (params : FsverityParams) (p : PlanFields) (bytes : List ℕ) (count : ℕ)
+        (blocks : ℕ → CheckedBlock) → fsverity_plan_of params ≡ Ok p
+        → AreAcceptedByCalls (fsverity_plan_of params) p (root p.settings (data_blocks p bytes)) count blocks
+        → AreTrueOrCollide p bytes count blocks }
+{}
+
 /// A tree is built by any calls of `verity_build_feed` that take all bytes, if the last one hands out no hash block;
 /// and so by the loop of verity.h, over any pieces that are together as long as the data.
 pub fn calls_build_the_tree()
@@ -102,18 +123,36 @@ pub fn calls_build_the_tree()
         → BuildsTree params p (bytes_of pieces) (calls_of pieces) after }
 {}
 
-/// The loop of verity.h ends, whatever stands in struct and memory: for a piece of n bytes and a tree of L levels, at
-/// most n * (L + 1) + L of its calls hand out a hash block.
+/// The loops of verity.h end, whatever stands in struct and memory: for a piece of n bytes and a tree of L levels, at
+/// most n * (L + 1) + L of its calls hand out a hash block; for a part of level L, just as many; for n digests and a join
+/// of level l, n * (L - l + 1) + L - l. For a file's tree L is the most levels that it can have: at most
+/// n * (L + 1) + L calls leave bytes of a piece of n bytes, and none hands out a last hash block of level L or above.
 pub fn building_loops_end()
-    ensures { (params : VerityParams) (p : PlanFields) (kept : Kept) (piece : List ℕ) (calls : List FeedingCall)
+    ensures tree { (params : VerityParams) (p : PlanFields) (kept : Kept) (piece : List ℕ) (calls : List FeedingCall)
         → plan_of params ≡ Ok p → GoesOn params kept piece calls
         → length calls ≤ length piece * (level_count_of p + 1) + level_count_of p }
+    ensures part { (made : Result PlanFields Fault) (kept : KeptPart) (piece : List ℕ) (calls : List PartCall)
+        → PartGoesOn made kept piece calls
+        → length calls ≤ length piece * (kept.part.level + 1) + kept.part.level }
+    ensures join { (made : Result PlanFields Fault) (p : PlanFields) (kept : KeptJoin) (digests : List ℕ)
+        (calls : List JoinCall) → made ≡ Ok p → JoinGoesOn made kept digests calls
+        → length calls ≤ length digests / digest_len p.settings * (level_count_of p - kept.join.level + 1)
+        + (level_count_of p - kept.join.level) }
+    ensures file_tree { (params : FsverityParams) (tree : TreeSettingsFields) (kept : Kept) (piece : List ℕ)
+        (calls : List FeedingCall) → fsverity_tree_of params ≡ Ok tree → TreeGoesOn params kept piece calls
+        → length calls ≤ length piece * (most_level_count tree + 1) + most_level_count tree }
+    ensures file_end { (params : FsverityParams) (tree : TreeSettingsFields) (build : VerityBuild)
+        (level memory_length room : ℕ) → fsverity_tree_of params ≡ Ok tree → most_level_count tree ≤ level
+        → status_of (with_last_block (with_file_memory (fsverity_tree_of params) memory_length) build level room)
+        ≢ done }
 {}
 
 /// A tree is built from the parts of a level, each apart from the others, and their join: by any calls of
 /// `verity_part_feed` that take a part's bytes, for each part, and any calls of `verity_join_feed` that take the
 /// digests that `verity_part_end` gives, in the order of the parts, if the last call for each part and the last one for
-/// the join hand out no hash block. The hash blocks may be written in any order. The same holds of a file's tree.
+/// the join hand out no hash block. The hash blocks may be written in any order. A part may be begun, given up and built
+/// again, too: what any attempt at it handed out, over the same data, may be written at any time, also later. The same
+/// holds of a file's tree.
 pub fn calls_build_the_tree_from_parts()
     ensures verity { (params : VerityParams) (p : PlanFields) (level : ℕ) (bytes : List ℕ) (parts : ℕ → PartCalls)
         (join : JoinCalls) → plan_of params ≡ Ok p → p.wanted ≤ length bytes

@@ -36,11 +36,23 @@ salted_input-block algorithm After salt x y e = append_cancel_right x y salt e
 salted_input-block algorithm PaddedBefore salt x y e =
     append_cancel_left (with_zeros (next_multiple_of (length salt) (input_block_of algorithm)) salt) x y e
 
+-- different blocks at one place of the trees with one hash
+pub collide-at : (s : TreeSettingsFields) (xs ys : List (List ℕ)) (i levels : ℕ) → i < length xs
+    → levels ≤ level_count (fan s) (length xs) → true_chain s xs i levels ≢ true_chain s ys i levels
+    → hash s (true_chain s xs i levels) ≡ hash s (true_chain s ys i levels) → TreesCollide s xs ys
+unfolding hash
+collide-at s xs ys i levels below most differ one = record {
+  index = i;
+  levels = levels;
+  index_below = below;
+  levels_most = most;
+  collide = record { differ = λ e. differ (salted_input-block s.algorithm s.rule s.salt _ _ e); one_hash = one };
+}
+
 -- one data block
 block-bound : (s : TreeSettingsFields) (xs ys : List (List ℕ)) (i : ℕ) → 2 ≤ fan s → length xs ≡ length ys
     → i < length xs
     → root s xs ≡ root s ys → (get_or xs i [] ≡ get_or ys i []) ⊎ TreesCollide s xs ys
-unfolding hash
 block-bound s xs ys i two same below one =
     let levels = level_count (fan s) (length xs) in
     let beside : i < length ys = omega (arith, below, same) in
@@ -49,16 +61,7 @@ block-bound s xs ys i two same below one =
     grind (arith, above, true_chain-up s xs i l below, true_chain-up s ys i l beside))
     (grind (arith, one, same, true_chain-root s xs i two below, true_chain-root s ys i two beside))) [
       | inl here ↦ inl here
-      | inr met ↦ inr (record {
-        index = i;
-        levels = met.0;
-        index_below = below;
-        levels_most = met.1;
-        collide = record {
-          differ = λ e. met.2 (salted_input-block s.algorithm s.rule s.salt _ _ e);
-          one_hash = met.3;
-        };
-      })
+      | inr met ↦ inr (collide-at s xs ys i met.0 below met.1 met.2 met.3)
     ]
 
 -- each number below some one has a property, or something else is so

@@ -49,7 +49,7 @@ pub times-first : (at : BlockIndex) (hash_blocks : List BlockIndex) → 0 < time
 times-first at hash_blocks = grind (arith, nat_tests, times-more at.level at.index at hash_blocks)
 
 -- blocks that all stand there, each that is counted
-stands-counted : (p : PlanFields) (blocks : List (List ℕ)) (device : List ℕ) (hash_blocks : List BlockIndex)
+pub stands-counted : (p : PlanFields) (blocks : List (List ℕ)) (device : List ℕ) (hash_blocks : List BlockIndex)
     → ((l j : ℕ) → 0 < times l j hash_blocks → HoldsBlockAt p blocks device (block_index l j))
     → NoneDiffers p blocks device hash_blocks
 stands-counted p blocks device [] each = All-nil (HoldsBlockAt p blocks device)

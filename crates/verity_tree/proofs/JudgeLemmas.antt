@@ -47,7 +47,7 @@ find-first p blocks device front rest at h here =
     find-append (differs p blocks device) front (at ∷ rest) ∙ rw (none, here) refl
 
 -- bytes that are another's are not equal
-bytes-differ : (xs ys : List ℕ) → xs ≢ ys → bytes_eq xs ys ≡ false
+pub bytes-differ : (xs ys : List ℕ) → xs ≢ ys → bytes_eq xs ys ≡ false
 bytes-differ xs ys other = false_from_ne_true _ (λ same. other ((bytes_eq-Decides xs ys).0 same))
 
 -- the verdict if no block differs

@@ -26,7 +26,9 @@ pub mod JoinedLists
 pub mod ChainLemmas
 pub mod PathLemmas
 pub mod LinkLemmas
+pub mod KeptBlocks
 pub mod BindingLemmas
+mod FirstDifferentBlock
 pub mod LastByteLemmas
 pub mod ClimbLemmas
 pub mod FileCalls

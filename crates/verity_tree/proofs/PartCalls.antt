@@ -1,7 +1,7 @@
 -- A tree that is built from parts, each in calls of its own, in any order and at the same time, and joined by their
 -- digests.
 use Rattle.std.proofs.Common.{◌≡◌, ℕ, zero, suc, ◌+◌, ◌*◌, ◌/◌, ◌<◌, ◌≤◌, List, [], ◌∷◌, ◌++◌, length, take, drop}
-use Rattle.std.proofs.Common.{Option, Some, None, ◌↔◌, arith, refl, sym, subst, ◌∙◌, ap, inl, inr, append_assoc}
+use Rattle.std.proofs.Common.{Option, Some, None, arith, refl, sym, subst, ◌∙◌, ap, inl, inr, append_assoc}
 use Rattle.std.proofs.Common.{length-append}
 use Rattle.std.proofs.lemmas.Bool.{cases_lt}
 use Rattle.std.proofs.lemmas.List.{append-nil}
@@ -15,19 +15,20 @@ use Rattle.std.proofs.Math.Seq.{drop-append-add}
 use Rattle.std.specs.Fork.{slice_chunk}
 use Rattle.std.specs.List.{All, Contains, flat_map, range_with_len}
 use Rattle.std.specs.Prelude.{◌==◌, ◌&&◌, cond, slice_index_or}
-use Rattle.verity_plan.specs.Plans.{IsPlan, PlanFields}
+use Rattle.verity_plan.specs.Plans.{HasBlock, IsPlan, PlanFields}
 use Rattle.verity_plan.specs.PlanCounts.{level_count_of, count_under}
 use Rattle.verity_plan.specs.Settings.{digest_len, fan}
 use Rattle.verity_plan.proofs.CountLemmas.{mul_le}
-use Rattle.verity_plan.proofs.FanLemmas.{digest_len_of-pos}
+use Rattle.verity_plan.proofs.FanLemmas.{digest_len_of-pos, fan-some}
 use Rattle.verity_tree.specs.ClosingOrder.{BlockIndex, closed_after, times}
 use Rattle.verity_tree.specs.Feeding.{FeedCall, given, written, written_all}
 use Rattle.verity_tree.specs.Levels.{data_blocks, root}
 use Rattle.verity_tree.specs.Parts.{AreDigests, BuildsFromParts, BuildsJoinInCalls, BuildsPartInCalls, FeedsPartCalls}
-use Rattle.verity_tree.specs.Parts.{HasPart, IsFedPart, IsHandedOutOfJoin, IsHandedOutOfPart, IsJoined, JoinInCalls}
-use Rattle.verity_tree.specs.Parts.{JoinsCalls, PartInCalls, blocks_under, bytes_of_part, calls_from_parts}
-use Rattle.verity_tree.specs.Parts.{digest_of_part}
-use Rattle.verity_tree.specs.Parts.{handed_out_of_join, handed_out_of_part, join_order, part_order, plan_of_part}
+use Rattle.verity_tree.specs.Parts.{HasPart, IsFedPart, IsHandedOutOfJoin, IsHandedOutOfPart, IsJoined}
+use Rattle.verity_tree.specs.PartsBuiltAgain.{AreWrites, IsCallForPart}
+use Rattle.verity_tree.specs.Parts.{JoinInCalls, JoinsCalls, PartInCalls, blocks_under, bytes_of_part, calls_from_parts}
+use Rattle.verity_tree.specs.Parts.{digest_of_part, handed_out_of_join, handed_out_of_part, join_order, part_order}
+use Rattle.verity_tree.specs.Parts.{plan_of_part}
 use Rattle.verity_tree.specs.Steps.Parts.{PartStands}
 use Rattle.verity_tree.specs.TreeWriting.{device_with}
 use Rattle.verity_tree.specs.declared.join_builder.JoinBuilder.{JoinBuilder}
@@ -37,9 +38,12 @@ use Rattle.verity_tree.proofs.AnyOrder.{any-order}
 use Rattle.verity_tree.proofs.FirstBlockLemmas.{chunk-front}
 use Rattle.verity_tree.proofs.LevelLemmas.{length-cut}
 use Rattle.verity_tree.proofs.OpenBlockLemmas.{length-hash}
+use Rattle.verity_tree.proofs.OrderLemmas.{ClosesOnce-all}
 use Rattle.verity_tree.proofs.OrderSplit.{device_with-append}
 use Rattle.verity_tree.proofs.PartEnds.{join-all, join-none, part-all, part-none}
-use Rattle.verity_tree.proofs.PartOrder.{parts-once, range-more}
+use Rattle.verity_tree.proofs.PartFeeding.{part-bytes-most}
+use Rattle.verity_tree.proofs.PartOrder.{handed_out-has, parts-once, range-more}
+use Rattle.verity_tree.proofs.PartOwnOrder.{part-last-below}
 use Rattle.verity_tree.proofs.JoinedLists.{flat_map-same, length-pieces, piece}
 
 -- ---- calls in any order
@@ -74,17 +78,13 @@ times-more-calls l j call rest =
     (blocks_of rest)
 
 -- one of some calls hands out no more than all
-times-one : (l j : ℕ) (calls : List FeedCall)
-    → All (λ call. times l j (given call.hash_block) ≤ times l j (blocks_of calls)) calls
-times-one l j [] = All-nil (λ (call : FeedCall). times l j (given call.hash_block) ≤ times l j (blocks_of []))
-times-one l j (call ∷ rest) =
-    let count : times l j (blocks_of (call ∷ rest)) ≡ times l j (given call.hash_block) + times l j (blocks_of rest) =
-    times-more-calls l j call rest in
-    All-cons (λ (c : FeedCall). times l j (given c.hash_block) ≤ times l j (blocks_of (call ∷ rest))) call rest
-    (omega (arith, count))
-    (All-weaker (λ (c : FeedCall). times l j (given c.hash_block) ≤ times l j (blocks_of rest))
-    (λ (c : FeedCall). times l j (given c.hash_block) ≤ times l j (blocks_of (call ∷ rest)))
-    (λ c few. omega (arith, count, few)) rest (times-one l j rest))
+times-one : (l j : ℕ) (calls : List FeedCall) (call : FeedCall) → Contains calls call
+    → times l j (given call.hash_block) ≤ times l j (blocks_of calls)
+times-one l j [] call there = absurd (omega (arith, there.1))
+times-one l j (first ∷ rest) call (zero, low, is) =
+    omega (arith, times-more-calls l j first rest, ap (λ (c : FeedCall). times l j (given c.hash_block)) is)
+times-one l j (first ∷ rest) call (suc k, low, is) =
+    omega (arith, times-more-calls l j first rest, times-one l j rest call (k, omega (arith, low), is))
 
 -- a block that is handed out is handed out by one of the calls
 times-of : (l j : ℕ) (calls : List FeedCall) → 0 < times l j (blocks_of calls)
@@ -103,12 +103,7 @@ times-among : (l j : ℕ) (calls writes : List FeedCall)
     → 0 < times l j (blocks_of calls) → 0 < times l j (blocks_of writes)
 times-among l j calls writes among some =
     let one = times-of l j calls some in
-    omega (
-      arith,
-      one.2,
-      All-contains (λ (call : FeedCall). times l j (given call.hash_block) ≤ times l j (blocks_of writes)) writes one.0
-          (times-one l j writes) (among one.0 one.1),
-    )
+    omega (arith, one.2, times-one l j writes one.0 (among one.0 one.1))
 
 -- ---- the calls of a part
 
@@ -136,7 +131,7 @@ pub record CallsPart (p : PlanFields) (level part : ℕ) (calls : List FeedCall)
   pub is_fed : IsFedPart after memory_after (fed ++ flat_map (λ call. call.taken) calls)
   pub order : handed_out_of_part p level part after.fed after.closed
       ≡ handed_out_of_part p level part b.fed b.closed ++ blocks_of calls
-  pub right : bytes_of_part p level part bytes ≡ fed ++ flat_map (λ call. call.taken) calls
+  pub right : (rest : List ℕ) → bytes_of_part p level part bytes ≡ fed ++ (flat_map (λ call. call.taken) calls ++ rest)
       → All (WritesRight p bytes) calls
 
 part-joined : (p : PlanFields) (level part : ℕ) (calls : List FeedCall) (b after : PartBuilder)
@@ -150,7 +145,7 @@ part-joined p level part [] b after memory memory_after fed bytes plan_is level_
   part_is = rw calls.0 part_is;
   is_fed = rw (calls.0, calls.1, append-nil fed) h;
   order = rw (calls.0, append-nil) refl;
-  right = λ is. All-nil (WritesRight p bytes);
+  right = λ more is. All-nil (WritesRight p bytes);
 }
 part-joined p level part (call ∷ rest) b after memory memory_after fed bytes plan_is level_is part_is h calls =
     let next = calls.0 in
@@ -167,14 +162,16 @@ part-joined p level part (call ∷ rest) b after memory memory_after fed bytes p
       order = goes_on.order
           ∙ ap (λ (xs : List BlockIndex). xs ++ blocks_of rest) (rw (plan_is, level_is, part_is) at step.order)
           ∙ append_assoc (handed_out_of_part p level part b.fed b.closed) (given call.hash_block) (blocks_of rest);
-      right = λ is.
-          let is_all : bytes_of_part p level part bytes ≡ (fed ++ call.taken) ++ taken =
-          is ∙ sym (append_assoc fed call.taken taken) in
+      right = λ more is.
+          let is_all : bytes_of_part p level part bytes ≡ (fed ++ call.taken) ++ (taken ++ more) =
+          is
+          ∙ ap (λ (xs : List ℕ). fed ++ xs) (append_assoc call.taken taken more)
+          ∙ sym (append_assoc fed call.taken (taken ++ more)) in
           All-cons (WritesRight p bytes) call rest
           (λ device.
-          part-written b p level part call.hash_block call.memory (fed ++ call.taken) taken bytes device plan_is
-          level_is part_is step.stands is_all)
-          (goes_on.right is_all);
+          part-written b p level part call.hash_block call.memory (fed ++ call.taken) (taken ++ more) bytes device
+          plan_is level_is part_is step.stands is_all)
+          (goes_on.right more is_all);
     }
 
 -- before the first byte no level has closed
@@ -205,10 +202,52 @@ part-built p level part bytes run planned has built =
     rw (← built.begins.count, first) (part-none p level part) in
     record {
       order = sym (rw (built.fed_all, built.closed_all, none) at done.order) ∙ part-all p level part planned has;
-      right = done.right (sym built.bytes_are);
+      right = done.right [] (sym (append-nil (flat_map (λ (c : FeedCall). c.taken) run.calls) ∙ built.bytes_are));
       fed = fed;
       digest_is = (rw (done.plan_is, done.level_is, done.part_is) at (built.ends own fed bytes)) refl;
     }
+
+-- no more levels have closed than a part has
+closed-most : (own : PlanFields) (levels closed : ℕ) (fed opened window : List ℕ)
+    → PartStands own levels fed closed opened window → closed ≤ levels
+closed-most own levels zero fed opened window h = omega arith
+closed-most own levels (suc level) fed opened window h = omega (arith, h.level_below)
+
+-- what a call hands out is of the tree, and is put at its place when it is written
+abbrev IsOfTree : PlanFields → List ℕ → FeedCall → Type 0
+IsOfTree p bytes call =
+    WritesRight p bytes call × ((l j : ℕ) → 0 < times l j (given call.hash_block) → HasBlock p l j)
+
+-- so it is with each call of a run that was perhaps given up
+call-of_tree : (p : PlanFields) (level : ℕ) (bytes : List ℕ) (call : FeedCall) → IsPlan p
+    → IsCallForPart p level bytes call → IsOfTree p bytes call
+call-of_tree p level bytes call planned h =
+    let run = h.run in
+    let b = run.begun in
+    let after = run.after in
+    let taken = flat_map (λ (c : FeedCall). c.taken) run.calls in
+    let done = part-joined p level h.part run.calls b after run.memory run.memory_after [] bytes h.plan_is h.level_is
+    h.part_is h.begins h.feeds in
+    let has : HasPart p level h.part = rw (h.plan_is, h.level_is, h.part_is) at h.begins.part in
+    let few : after.closed ≤ level =
+    rw done.level_is at (closed-most _ after.level after.closed taken _ _ done.is_fed.stands) in
+    let inside = part-last-below p level h.part after.fed planned has (omega (
+      arith,
+      done.is_fed.count,
+      length-append taken h.rest,
+      ap length h.bytes_are,
+      part-bytes-most p level h.part bytes,
+    )) in (
+      All-contains (WritesRight p bytes) run.calls call (done.right h.rest (sym h.bytes_are)) h.is_call,
+      λ l j some. handed_out-has p level h.part after.fed after.closed l j has.level_most few inside.1 (omega (
+        arith,
+        some,
+        times-one l j run.calls call h.is_call,
+        ap (times l j) done.order,
+        sum_by-append (λ (at : BlockIndex). cond ((at.level == l) && (at.index == j)) 1 0)
+            (handed_out_of_part p level h.part b.fed b.closed) (blocks_of run.calls),
+      )),
+    )
 
 -- ---- the calls of a join
 
@@ -356,14 +395,15 @@ first-parts p level bytes parts (suc k) built =
       rw all (All-append (WritesRight p bytes) calls (of_part k) before.1 one.right),
     )
 
--- parts and join leave the tree, in whatever order and however often what they hand out is written
-pub parts-build : (p : PlanFields) (level : ℕ) (bytes device : List ℕ) (parts : ℕ → PartInCalls) (join : JoinInCalls)
-    (writes : List FeedCall) → IsPlan p → level ≤ level_count_of p
+-- parts and join leave the tree, in whatever order and however often what they hand out is written, and with it what
+-- runs for parts handed out that were perhaps given up
+pub parts-build : (p : PlanFields) (level : ℕ) (bytes device : List ℕ) (parts : ℕ → PartInCalls)
+    (join : JoinInCalls) (writes : List FeedCall) → IsPlan p → level ≤ level_count_of p
     → ((part : ℕ) → part < count_under p level → BuildsPartInCalls p level part bytes (parts part))
     → BuildsJoinInCalls p level bytes parts join
-    → ((call : FeedCall) → Contains writes call ↔ Contains (calls_from_parts p level parts join) call)
+    → AreWrites p level bytes parts join writes
     → BuildsFromParts p level bytes parts join writes device
-parts-build p level bytes device parts join writes planned most built joined same =
+parts-build p level bytes device parts join writes planned most built joined written =
     let n = count_under p level in
     let calls = calls_from_parts p level parts join in
     let of_parts = flat_map (λ part. (parts part).calls) (range_with_len 0 n) in
@@ -381,20 +421,27 @@ parts-build p level bytes device parts join writes planned most built joined sam
     λ l j. ap (times l j) order ∙ parts-once p level l j in
     let right : All (WritesRight p bytes) calls =
     All-append (WritesRight p bytes) of_parts join.calls below.1 above.right in
-    let right_writes : All (WritesRight p bytes) writes =
-    All-weaker (Contains writes) (WritesRight p bytes)
-    (λ call there. All-contains (WritesRight p bytes) calls call right ((same call).0 there)) writes
-    (All-contains_itself writes) in
+    let tree = ClosesOnce-all (fan p.settings) p.blocks (fan-some p.settings) in
+    let of_tree : (call : FeedCall) → Contains writes call → IsOfTree p bytes call = λ call there.
+    elim (written.only call there) [
+      | inl one ↦ (
+        All-contains (WritesRight p bytes) calls call right one,
+        λ l j some. tree.only l j (omega (arith, once l j, some, times-one l j calls call one)),
+      )
+      | inr again ↦ call-of_tree p level bytes call planned again
+    ] in
     record {
       fed = λ part low. (each part low).fed;
       joined = above.joined;
       root_is = above.root_is;
       once = once;
-      stands = all-written p bytes writes device right_writes
+      stands = all-written p bytes writes device
+          (All-weaker (Contains writes) (WritesRight p bytes) (λ call there. (of_tree call there).0) writes
+          (All-contains_itself writes))
           ∙ any-order p (blocks_of writes) bytes device planned (λ l j. (
             λ some.
-                omega (arith, once l j, times-among l j writes calls (λ call there. (same call).0 there) some),
-            λ some.
-                times-among l j calls writes (λ call there. (same call).1 there) (omega (arith, once l j, some)),
+                let one = times-of l j writes some in
+                omega (arith, tree.once l j ((of_tree one.0 one.1).1 l j one.2)),
+            λ some. times-among l j calls writes written.all (omega (arith, once l j, some)),
           ));
     }

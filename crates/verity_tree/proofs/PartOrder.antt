@@ -1,6 +1,6 @@
--- The orders of the parts and of the join are together the closing order.
-use Rattle.std.proofs.Common.{◌≡◌, ℕ, zero, suc, ◌+◌, ◌-◌, ◌*◌, min, not, Bool, List, [], ◌∷◌, ◌++◌}
-use Rattle.std.proofs.Common.{arith, refl, sym, ◌∙◌, ap, inl, inr, append_assoc}
+-- The orders of the parts and of the join are together the closing order, and what a part hands out is the tree's.
+use Rattle.std.proofs.Common.{◌≡◌, ℕ, zero, suc, ◌+◌, ◌-◌, ◌*◌, ◌/◌, ◌^◌, ◌<◌, ◌≤◌, min, not, Bool, List, [], ◌∷◌}
+use Rattle.std.proofs.Common.{◌++◌, map, arith, refl, sym, ◌∙◌, ap, inl, inr, append_assoc}
 use Rattle.std.proofs.lemmas.Bool.{cases_lt}
 use Rattle.std.proofs.lemmas.Bool.Decides.{nat_tests}
 use Rattle.std.proofs.lemmas.List.{append-nil, map-id}
@@ -12,13 +12,18 @@ use Rattle.std.proofs.lemmas.List.Sums.{sum_by-append}
 use Rattle.std.proofs.Math.Nat.{one-le-pow}
 use Rattle.std.specs.List.{filter, flat_map, range_with_len}
 use Rattle.std.specs.Prelude.{◌==◌, ◌&&◌, cond, nat_le, nat_lt}
-use Rattle.verity_plan.specs.Plans.{PlanFields}
-use Rattle.verity_plan.specs.PlanCounts.{count_under}
+use Rattle.verity_plan.specs.Plans.{HasBlock, PlanFields}
+use Rattle.verity_plan.specs.PlanCounts.{level_count_of, count_under}
 use Rattle.verity_plan.specs.Settings.{fan}
 use Rattle.verity_plan.proofs.CountLemmas.{le-div_ceil}
 use Rattle.verity_plan.proofs.FanLemmas.{fan-some}
-use Rattle.verity_tree.specs.ClosingOrder.{BlockIndex, closed_after, closing_with, times}
-use Rattle.verity_tree.specs.Parts.{closed_in_part, join_order, part_order, blocks_in_part}
+use Rattle.verity_plan.proofs.IndexLemmas.{HasBlock-above}
+use Rattle.verity_tree.specs.ClosingOrder.{BlockIndex, block_index, blocks_before, closed_after, closing_with}
+use Rattle.verity_tree.specs.ClosingOrder.{first_closing, times}
+use Rattle.verity_tree.specs.Parts.{closed_in_part, first_block, handed_out_of_part, join_order, part_order}
+use Rattle.verity_tree.specs.Parts.{blocks_in_part}
+use Rattle.verity_tree.proofs.HoldsLemmas.{times-cases}
+use Rattle.verity_tree.proofs.OrderLemmas.{closed_time}
 
 -- a block is of a level below this one
 abbrev pub is_below : ℕ → BlockIndex → Bool
@@ -115,3 +120,48 @@ parts-once p level l j =
     sum_by-append one (flat_map (part_order p level) (range_with_len 0 (count_under p level))) (join_order p level)
     ∙ ap (λ (xs : List BlockIndex). times l j xs + times l j (join_order p level)) (parts-all p level)
     ∙ sum_by-filter_both (is_below level) (λ block. nat_le level block.level) (not-below level) one all
+
+-- hash blocks of some levels above one of the tree's data blocks are the tree's
+levels-have : (p : PlanFields) (i from count l j : ℕ) → i < p.blocks → from + count ≤ level_count_of p
+    → 0 < times l j (map (λ level. block_index level (i / fan p.settings ^ (level + 1))) (range_with_len from count))
+    → HasBlock p l j
+levels-have p i from zero l j inside most some = absurd (omega (arith, some))
+levels-have p i from (suc count) l j inside most some =
+    let f = fan p.settings in
+    let g : ℕ → BlockIndex = λ level. block_index level (i / f ^ (level + 1)) in
+    elim (times-cases l j (g from) (map g (range_with_len (from + 1) count)) some) [
+      | inl here ↦
+          let level = here.0 in
+          let index = here.1 in
+          rw (← index, ← level) (HasBlock-above p i from (fan-some p.settings) inside (omega (arith, most)))
+      | inr later ↦ levels-have p i (from + 1) count l j inside (omega (arith, most)) later
+    ]
+
+-- what a part has handed out, perhaps before its last byte, is the tree's
+pub handed_out-has : (p : PlanFields) (level part count closed l j : ℕ) → level ≤ level_count_of p → closed ≤ level
+    → first_block p level part + blocks_before p.settings count < p.blocks
+    → 0 < times l j (handed_out_of_part p level part count closed) → HasBlock p l j
+handed_out-has p level part count closed l j most few inside some =
+    let f = fan p.settings in
+    let n = p.blocks in
+    let first = first_block p level part in
+    let i = blocks_before p.settings count in
+    let all = closed_after f n (first + i) in
+    let one : BlockIndex → ℕ = λ at. cond ((at.level == l) && (at.index == j)) 1 0 in
+    elim (cases_lt 0 (times l j (first_closing f (first + i) closed))) [
+      | inl last ↦ levels-have p (first + i) 0 closed l j inside (omega (arith, most, few)) last
+      | inr none ↦
+          let start : 0 + first ≡ first = omega arith in
+          let within =
+          ap (times l j) (sym (closed_in_part-all f n level (first + i)) ∙ closed_in_part-append f n level 0 first i)
+          ∙ sum_by-append one (closed_in_part f n level 0 first) (closed_in_part f n level (0 + first) i) in
+          (closed_time f n l j (first + i) (fan-some p.settings) (omega (arith, inside)) (omega (
+            arith,
+            some,
+            none,
+            sum_by-append one (closed_in_part f n level first i) (first_closing f (first + i) closed),
+            ap (λ (k : ℕ). times l j (closed_in_part f n level k i)) start,
+            within,
+            sum_by-filter_both (is_below level) (λ block. nat_le level block.level) (not-below level) one all,
+          ))).0
+    ]

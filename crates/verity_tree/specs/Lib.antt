@@ -8,11 +8,14 @@ pub mod Verdicts
 pub mod Comparing
 pub mod Paths
 pub mod Links
+pub mod KeptBlocks
 pub mod Collisions
 pub mod Windows
 pub mod Feeding
 pub mod FileTrees
 pub mod Parts
+pub mod PartsBuiltAgain
 pub mod FirstDifferences
+pub mod FirstDifferentBlock
 pub mod Steps
 pub mod Stores

@@ -1,7 +1,7 @@
 //! Laws of the definitions of trees: each holds for all settings and data. Those of slots, counts and places are
 //! `verity_plan`'s, and stand here too.
 ghost use Rattle.std.specs.Prelude.{◌≡◌, ◌⊎◌, ◌↔◌, ℕ, ◌+◌, ◌-◌, ◌/◌, ◌^◌, ◌<◌, ◌≤◌, List, [], ◌++◌, length, slice_index_or};
-ghost use Rattle.std.specs.Prelude.{Bool, Result, Ok, find, slice_index, take, ◌*◌, ◌≢◌};
+ghost use Rattle.std.specs.Prelude.{Bool, Result, Ok, Err, find, slice_index, take, ◌*◌, ◌≢◌};
 ghost use Rattle.std.specs.Int.{div_ceil};
 ghost use Rattle.verity_hash.specs.declared.salting.SaltRule.TheVariants.{PaddedBefore};
 ghost use Rattle.verity_plan.specs.Plans.{end_place_of, level_count, level_size, plan_of_file, PlanFields, IsPlan};
@@ -9,22 +9,26 @@ ghost use Rattle.verity_plan.specs.PlanCounts.{level_count_of, count_under};
 ghost use Rattle.verity_plan.specs.Settings.{TreeSettingsFields, fan};
 ghost use Rattle.verity_tree.specs.ClosingOrder.{BlockIndex, ClosesOnce, closed_after, times};
 ghost use Rattle.verity_tree.specs.Collisions.{Collide, TreesCollide, hashed_last, with_salt};
-ghost use Rattle.std.specs.List.{Contains, flat_map, range_with_len};
+ghost use Rattle.std.specs.List.{flat_map, range_with_len};
 ghost use Rattle.verity_tree.specs.Feeding.{BuildsInCalls, FeedCall, FeedsCalls, FeedsPieces, FileCall, IsFed, IsFedFile};
 ghost use Rattle.verity_tree.specs.Feeding.{IsAfterCalls, bytes_fed};
 ghost use Rattle.verity_tree.specs.FirstDifferences.{earliest, first_of_each};
+ghost use Rattle.verity_tree.specs.FirstDifferentBlock.{IsFirstDifferent, names_data_block};
 ghost use Rattle.verity_tree.specs.FileTrees.{AreLastBlocks, BuildsFileTree, FileTreeCall, IsAfterTreeCalls, IsFedFileTree};
 ghost use Rattle.verity_tree.specs.FileTrees.{file_of_calls};
 ghost use Rattle.verity_tree.specs.TreeOnDevice.{tree_block, HoldsTree};
 ghost use Rattle.verity_tree.specs.TreeWriting.{device_with, tree_on_device};
+ghost use Rattle.verity_tree.specs.declared.comparing.CompareFault.TheVariants.{RootDiffers};
 ghost use Rattle.verity_tree.specs.declared.file_builder.FileBuilder.{FileBuilder};
 ghost use Rattle.verity_tree.specs.declared.file_tree_builder.FileTreeBuilder.{FileTreeBuilder};
 ghost use Rattle.verity_tree.specs.declared.tree_builder.TreeBuilder.{TreeBuilder};
 ghost use Rattle.verity_tree.specs.Levels.{blocks_up, data_blocks, level, height, root};
+ghost use Rattle.verity_tree.specs.KeptBlocks.{AreAccepted, AreTrueOrCollide, CheckedBlock};
 ghost use Rattle.verity_tree.specs.Links.{AreLinked, IsCollision, checked_link, checked_top, joined};
 ghost use Rattle.verity_tree.specs.Parts.{BuildsFromParts, BuildsJoinInCalls, BuildsPartInCalls, HasPart, JoinInCalls};
-ghost use Rattle.verity_tree.specs.Parts.{PartInCalls, bytes_of_part, calls_from_parts, join_order, part_order};
+ghost use Rattle.verity_tree.specs.Parts.{PartInCalls, bytes_of_part, join_order, part_order};
 ghost use Rattle.verity_tree.specs.Parts.{plan_of_part};
+ghost use Rattle.verity_tree.specs.PartsBuiltAgain.{AreWrites};
 ghost use Rattle.verity_tree.specs.Paths.{ChecksBlock, HasCollision, IsAccepted, true_chain, true_path};
 ghost use Rattle.verity_tree.specs.Verdicts.{differs, verdict, verdict_by};
 ghost use Rattle.verity_tree.specs.declared.path.PathFault.{PathFault};
@@ -152,6 +156,15 @@ pub fn accepted_links_are_true()
         ⊎ IsCollision p.settings block (true_chain p.settings (data_blocks p bytes) i (level_count_of p)) }
 {}
 
+/// Blocks that are accepted one after another, the top one by the root hash of some data and each other by one that was
+/// accepted before it at its parent's place, are all the tree's, whichever are kept, forgotten and read again in between;
+/// or one of them is not, and has the salted hash of the tree's block at its place.
+pub fn kept_blocks_are_true()
+    ensures { (p : PlanFields) (bytes : List ℕ) (count : ℕ) (blocks : ℕ → CheckedBlock) → IsPlan p
+        → AreAccepted p (root p.settings (data_blocks p bytes)) count blocks
+        → AreTrueOrCollide p bytes count blocks }
+{}
+
 /// A file that is fed in pieces, whatever they are, is their bytes joined, and the settings stay; so `end` answers its
 /// root hash by the settings at the beginning.
 pub fn any_pieces_are_the_file()
@@ -222,13 +235,14 @@ pub fn parts_joined_are_the_tree()
 /// A tree whose parts are built in any calls, apart from one another, and joined by the digests that they end with is
 /// what `build` leaves on the device, in whatever order the hash blocks that these calls handed out are put at their
 /// places, and however often. Each was handed out once, and the join ends with the root hash. So the parts can be built
-/// in any order and at the same time.
+/// in any order and at the same time. A part can be begun, given up and built again, too: what any attempt at it handed
+/// out, over the same data, may be put at its place at any time, also later.
 pub fn any_calls_build_the_tree_from_parts()
     ensures { (p : PlanFields) (level : ℕ) (bytes device : List ℕ) (parts : ℕ → PartInCalls) (join : JoinInCalls)
         (writes : List FeedCall) → IsPlan p → level ≤ level_count_of p
         → ((part : ℕ) → part < count_under p level → BuildsPartInCalls p level part bytes (parts part))
         → BuildsJoinInCalls p level bytes parts join
-        → ((call : FeedCall) → Contains writes call ↔ Contains (calls_from_parts p level parts join) call)
+        → AreWrites p level bytes parts join writes
         → BuildsFromParts p level bytes parts join writes device }
 {}
 
@@ -242,4 +256,22 @@ pub fn first_differences_of_parts_name_the_first()
     ensures verdict { (p : PlanFields) (level : ℕ) (device bytes digest : List ℕ) → p.wanted ≤ length bytes
         → verdict p device bytes digest ≡ verdict_by p device bytes
         (earliest (fan p.settings) p.blocks (first_of_each p level (differs p (data_blocks p bytes) device))) digest }
+{}
+
+/// If a device holds the tree of some data, the verdict on other data that are long enough, against that root hash, is
+/// that all is right, and the two are the same in every covered byte; or it names the first data block in which they
+/// differ; or their trees show a collision of the hash function. Where there is just one data block, and so no hash
+/// block, it is the root hash that differs.
+pub fn verdicts_name_the_first_different_block()
+    ensures several { (p : PlanFields) (device x y digest : List ℕ) → IsPlan p → 1 < p.blocks
+        → HoldsTree p device x digest → p.wanted ≤ length y
+        → ((verdict p device y digest ≡ Ok tt) × (take p.wanted x ≡ take p.wanted y))
+        ⊎ ((i : ℕ) × IsFirstDifferent p x y i × (verdict p device y digest ≡ Err (names_data_block p i)))
+        ⊎ TreesCollide p.settings (data_blocks p x) (data_blocks p y) }
+    ensures one { (p : PlanFields) (device x y digest : List ℕ) → IsPlan p → p.blocks ≡ 1
+        → HoldsTree p device x digest → p.wanted ≤ length y
+        → ((verdict p device y digest ≡ Ok tt) × (take p.wanted x ≡ take p.wanted y))
+        ⊎ (IsFirstDifferent p x y 0
+        × (verdict p device y digest ≡ Err (RootDiffers (root p.settings (data_blocks p y)))))
+        ⊎ TreesCollide p.settings (data_blocks p x) (data_blocks p y) }
 {}

@@ -1,0 +1,2 @@
+mod SettingsOfParameters
+mod BuiltDevices
