@@ -61,9 +61,9 @@
  * it is handed, but for what memcpy, memmove and memset take:
  *
  *                                                 x86-64   64-bit ARM   libverity-strict-align.a
- *     a part that is fed or ended                  16264        14976                      18176
- *     a tree that is fed or ended                  15560        14288                      17488
- *     a join that is fed or ended, a file digest   10088         9312                      11392
+ *     a part that is fed or ended                  16280        14976                      18192
+ *     a tree that is fed or ended                  15768        14512                      17696
+ *     a join that is fed or ended, a file digest   10088         9312                      11472
  *     a block that is checked                       8472         7632                       9776
  *     any other call                                3112         3136                       3120
  *

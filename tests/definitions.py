@@ -79,8 +79,10 @@ def spec(module):
 
 
 def clause(text, name):
-    """The clauses of this name, each up to the brace that ends it."""
+    """The clauses of public functions of this name, each up to the brace that ends it."""
     for found in re.finditer(r"ensures " + name + r" \{", text):
+        if not re.findall(r"^(?:pub(?:\(crate\))? )?fn ", text[: found.start()], re.M)[-1].startswith("pub fn"):
+            continue
         depth, at = 1, found.end()
         while depth:
             depth += {"{": 1, "}": -1}.get(text[at], 0)

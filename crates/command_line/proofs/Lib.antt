@@ -1,6 +1,6 @@
-pub mod Prefixes
-pub mod Chains
-pub mod Named
 pub mod Causes
-pub mod WordLists
+mod Chains
+pub mod Named
 pub mod Numerals
+pub mod Prefixes
+mod WordLists

@@ -12,7 +12,7 @@ pub use files::identity::{
     FileIdentity, Identities, StatFields, are_same_file, paths_are_same_file,
 };
 pub use files::opening::{
-    MeasuredFile, OpenedFile, is_folder, open_measured, open_or_create, open_readable,
+    MeasuredFile, OpenedFile, is_folder, open_measured, open_readable, open_truncated,
     open_writable,
 };
 pub use files::placeholders::{NULL_DEVICE, Placeholders};

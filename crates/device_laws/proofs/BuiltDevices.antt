@@ -4,8 +4,8 @@ use Rattle.verity_c_api.specs.ReadBack.{HasFields}
 use Rattle.verity_c_api.specs.declared.parameters.VerityParams.{VerityParams}
 use Rattle.verity_io.specs.Counting.{Change}
 use Rattle.verity_plan.specs.Plans.{PlanFields}
-use Rattle.verity_tree.specs.Levels.{data_blocks}
-use Rattle.verity_tree.specs.TreeWriting.{tree_on_device}
+use Rattle.verity_blocks.specs.Levels.{data_blocks}
+use Rattle.verity_blocks.specs.TreeWriting.{tree_on_device}
 use Rattle.veritysetup.proofs.AcceptedLemmas.{accepted-back}
 use Rattle.veritysetup.proofs.FormattedLemmas.{written-formatted}
 use Rattle.veritysetup.specs.Faults.{status_refused, status_verification_failed}

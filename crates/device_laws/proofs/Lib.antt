@@ -1,2 +1,2 @@
-mod SettingsOfParameters
 mod BuiltDevices
+mod SettingsOfParameters

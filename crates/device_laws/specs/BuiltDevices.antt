@@ -10,7 +10,7 @@ use Rattle.verity_c_api.specs.declared.parameters.VerityParams.{VerityParams}
 use Rattle.verity_io.specs.Writing.{put}
 use Rattle.verity_plan.specs.CheckedSettings.{type_of_number}
 use Rattle.verity_plan.specs.Plans.{PlanFields, superblock_size}
-use Rattle.verity_tree.specs.Feeding.{FeedCall, written_all}
+use Rattle.verity_builders.specs.Feeding.{FeedCall, written_all}
 use Rattle.veritysetup.specs.Options.Settings.{SettingsFields}
 
 -- the settings say what the parameters say

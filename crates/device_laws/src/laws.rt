@@ -3,7 +3,7 @@ ghost use Rattle.std.specs.Prelude.{◌≡◌, ◌≢◌, ℕ, List, Option, tak
 ghost use Rattle.verity_c_api.specs.ReadBack.{HasFields};
 ghost use Rattle.verity_c_api.specs.declared.parameters.VerityParams.{VerityParams};
 ghost use Rattle.verity_io.specs.Counting.{change};
-ghost use Rattle.verity_tree.specs.Levels.{data_blocks};
+ghost use Rattle.verity_blocks.specs.Levels.{data_blocks};
 ghost use Rattle.veritysetup.specs.Faults.{status_refused, status_verification_failed};
 ghost use Rattle.veritysetup.specs.Options.Settings.{SettingsFields};
 ghost use Rattle.veritysetup.specs.Runs.Format.{formatted_device};
@@ -13,7 +13,7 @@ ghost use Rattle.veritysetup.specs.Runs.Verify.{VerifyRun};
 ghost use Rattle.veritysetup.specs.declared.runs.verify_input.VerifyInput.{VerifyInput};
 ghost use Rattle.device_laws.specs.BuiltDevices.{AreSettingsOf, IsTreeByCalls, with_superblock_by};
 
-use verity_tree::{Device, Source};
+use verity_io::{Device, Source};
 
 /// A device on which calls of a build, or of parts and a join, have built the tree, with each hash block written
 /// where the call said, and then the superblock at the hash offset, if the parameters have one, is the device that

@@ -3,7 +3,7 @@
 use fixtures::{Image, SUPERBLOCK_FIELDS, SUPERBLOCK_SIZE, flip, flip_bit, image_of, lay};
 use std::alloc::{AllocError, Global};
 use std::test::Fail;
-use verity_tree::{MemoryDevice, MemorySource};
+use verity_io::{MemoryDevice, MemorySource};
 use veritysetup::{VerifyInput, run_dump, run_verify};
 
 /// The image of 17 blocks of 512 bytes, with a salt.

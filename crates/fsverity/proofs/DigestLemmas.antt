@@ -4,9 +4,9 @@ use Rattle.std.proofs.Common.{arith}
 use Rattle.std.specs.Prelude.{min}
 use Rattle.std.proofs.Math.Nat.{div-eq_of_lt-le}
 use Rattle.verity_io.specs.Reading.{HasRead}
-use Rattle.verity_tree.specs.Levels.{data_blocks}
-use Rattle.verity_tree.specs.Reading.{EndsWithin, FailsWithin}
-use Rattle.verity_tree.specs.TreeWriting.{tree_on_device}
+use Rattle.verity_blocks.specs.Levels.{data_blocks}
+use Rattle.verity_pass.specs.Reading.{EndsWithin, FailsWithin}
+use Rattle.verity_blocks.specs.TreeWriting.{tree_on_device}
 use Rattle.verity_plan.specs.Plans.{PlanFields, plan_of_file}
 use Rattle.verity_plan.specs.Settings.{TreeSettingsFields}
 use Rattle.fsverity.specs.Runs.FileDigest.{with_tree}

@@ -15,11 +15,11 @@ use Rattle.verity_plan.proofs.CountLemmas.{le-div_ceil}
 use Rattle.verity_plan.proofs.FanLemmas.{fan-two, some_data}
 use Rattle.verity_format.specs.Descriptors.{DescriptorFields, descriptor_bytes, digest_of_file}
 use Rattle.verity_format.proofs.DescriptorLemmas.{algorithm_by_length, one-descriptor}
-use Rattle.verity_tree.specs.Collisions.{TreesCollide}
-use Rattle.verity_tree.specs.Levels.{cut, data_blocks, root, root_of_file}
-use Rattle.verity_tree.proofs.BindingLemmas.{bytes-bound}
-use Rattle.verity_tree.proofs.PathSteps.{bytes_eq-false}
-use Rattle.verity_tree.proofs.RootLemmas.{length-root_of_file, root_of_some}
+use Rattle.verity_pass.specs.Collisions.{TreesCollide}
+use Rattle.verity_blocks.specs.Levels.{cut, data_blocks, root, root_of_file}
+use Rattle.verity_pass.proofs.BoundData.{bytes-bound}
+use Rattle.verity_pass.proofs.PathSteps.{bytes_eq-false}
+use Rattle.verity_pass.proofs.RootLevels.{length-root_of_file, root_of_some}
 use Rattle.fsverity.specs.Runs.FileCollisions.{FilesCollide, blocks_of_file, descriptor_of_file}
 
 -- a file without bytes is empty

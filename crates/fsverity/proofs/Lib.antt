@@ -1,5 +1,4 @@
-pub mod RunLemmas
-pub mod DigestLemmas
-pub mod FileLemmas
-pub mod FormLemmas
-pub mod OutcomeLemmas
+mod DigestLemmas
+mod FileLemmas
+mod FormLemmas
+mod RunLemmas

@@ -1,30 +1,28 @@
 -- A run over files, file after file.
-use Rattle.std.proofs.Common.{◌≡◌, ◌≢◌, ℕ, zero, suc, ◌+◌, ◌<◌, ◌≤◌, List, [], ◌∷◌, ◌++◌, length, take, Bool, true}
+use Rattle.std.proofs.Common.{◌≡◌, ℕ, zero, suc, ◌+◌, ◌<◌, ◌≤◌, List, [], ◌∷◌, ◌++◌, length, take, Bool, true}
 use Rattle.std.proofs.Common.{false, inl, inr, Option, Some, None, Result, Ok, Err, refl, ap, sym, subst, not}
 use Rattle.std.proofs.Common.{add-one, arith}
-use Rattle.std.specs.Prelude.{◌↔◌, ◌⊎◌, IfErr, IsErr, IsErrAnd, IsOk, OnOk, slice_get}
+use Rattle.std.specs.Prelude.{◌↔◌, ◌⊎◌, IfErr, IsOk, OnOk, slice_get}
 use Rattle.std.proofs.lemmas.Option.{get_or_from_slice_get}
 use Rattle.std.specs.List.{prefix_len}
 use Rattle.std.specs.Io.KnownBytes.{Appends}
 use Rattle.command_line.proofs.Prefixes.{Keeps-refl, appends_kept}
-use Rattle.command_line.specs.Writing.{AppendsPrefix}
 use Rattle.verity_io.proofs.KnownLemmas.{appends_twice}
 use Rattle.verity_plan.specs.Settings.{TreeSettingsFields}
 use Rattle.fsverity.specs.Faults.{IsTold, result_status, status_failed, status_of}
 use Rattle.fsverity.specs.Texts.Lines.{digest_line}
-use Rattle.fsverity.specs.Texts.Messages.{run_fault_message}
 use Rattle.fsverity.specs.Openers.Opening.{OpenerChange}
 use Rattle.fsverity.specs.Runs.Digest.{EndsAt, HasReason, IsLargeAt, IsPartOfDigestLine, first_without_digest}
 use Rattle.fsverity.specs.Runs.Digest.{has_digest}
 use Rattle.fsverity.specs.Runs.Digested.{AreDigestLines, DigestInput, IsDigestAt, digest_line_at}
-use Rattle.fsverity.specs.Runs.DigestSteps.{HasDigestAt, StopsRun, StopsStep, WritesStep}
+use Rattle.fsverity.specs.Runs.DigestSteps.{ComesBeforeLine, HasDigestAt, StopsRun, StopsStep, WritesStep}
+use Rattle.command_line.specs.declared.writing.print_fault.PrintFault.TheVariants.{Output}
+use Rattle.command_line.specs.declared.writing.print_fault.PrintFault.TheVariants as print
 use Rattle.fsverity.specs.declared.fault.Fault.{Fault}
+use Rattle.fsverity.specs.declared.fault.Fault.TheVariants.{Unopened, Digest, Descriptor, DigestLine}
 use Rattle.fsverity.specs.declared.fault.Fault.TheVariants as ending
 use Rattle.fsverity.specs.declared.runs.digest_fault.DigestFault.TheVariants.{TooLarge, SourceShort, SourceFailed}
 use Rattle.fsverity.specs.declared.runs.digest_fault.DigestFault.TheVariants.{DeviceFailed, Memory}
-use Rattle.fsverity.specs.declared.runs.run_fault.RunFault.{RunFault}
-use Rattle.fsverity.specs.declared.runs.run_fault.RunFault.TheVariants.{Unopened, Digest, DigestLineMemory}
-use Rattle.fsverity.specs.declared.runs.run_fault.RunFault.TheVariants.{DigestLineUnwritten}
 
 -- one more element passes
 pub passes_more : {A : Type 0} (p : A → Bool) (xs : List A) (i : ℕ) (x : A) → slice_get xs i ≡ Some x → p x ≡ true →
@@ -57,14 +55,16 @@ passes_to p (y ∷ ys) (suc i) x is fails le = go (passes_to p ys i x is fails) 
     go next false e = let none : suc i ≤ 0 = rw e at le in absurd (omega (arith, none))
 
 -- a step that stopped before its line was made
-pub wrote_nothing : (s : TreeSettingsFields) (line_of : List ℕ → List ℕ) (told : Type 0) (files : List (Option (List ℕ))) (i : ℕ)
-    (fault : RunFault) (result : Result (Unit {0}) RunFault) (held : Option (List ℕ)) → fault ≢ DigestLineUnwritten →
-    IsErr result → IsErrAnd result (λ f. f ≡ fault) → WritesStep s line_of told files i result held held
-wrote_nothing s line_of told files i fault (Ok done) held other err same = cc
-wrote_nothing s line_of told files i fault (Err Unopened) held other err same = Keeps-refl held
-wrote_nothing s line_of told files i fault (Err (Digest cause)) held other err same = Keeps-refl held
-wrote_nothing s line_of told files i fault (Err DigestLineMemory) held other err same = Keeps-refl held
-wrote_nothing s line_of told files i fault (Err DigestLineUnwritten) held other err same = absurd (other (sym same))
+pub wrote_nothing : (s : TreeSettingsFields) (line_of : List ℕ → List ℕ) (told : Type 0) (files : List (Option (List ℕ)))
+    (i : ℕ) (fault : Fault) (held : Option (List ℕ)) → ComesBeforeLine fault
+    → WritesStep s line_of told files i (Err fault) held held
+wrote_nothing s line_of told files i (Unopened name) held early = Keeps-refl held
+wrote_nothing s line_of told files i (Digest cause name) held early = Keeps-refl held
+wrote_nothing s line_of told files i (DigestLine cause) held early = absurd early
+wrote_nothing s line_of told files i (Descriptor count) held early = absurd early
+wrote_nothing s line_of told files i (ending.Words cause) held early = absurd early
+wrote_nothing s line_of told files i (ending.Line cause) held early = absurd early
+wrote_nothing s line_of told files i (ending.Option cause) held early = absurd early
 
 -- a digest at an index of the same files, which are still told if they were at first
 same_digest : (s : TreeSettingsFields) (told told' : Type 0) (files files' : List (Option (List ℕ))) (i i' : ℕ) (digest : List ℕ)
@@ -108,26 +108,34 @@ line_more run told told' files files' i i' name old mid new named still same ind
 
 -- what is written of the line of the file that ends the run
 pub part_of_digest_line : (run : DigestInput) (told told' : Type 0) (files files' : List (Option (List ℕ))) (i i' : ℕ)
-    (name : List ℕ) (fault : RunFault) (mid new : Option (List ℕ)) → slice_get run.names i ≡ Some name →
+    (name : List ℕ) (fault : Fault) (mid new : Option (List ℕ)) → slice_get run.names i ≡ Some name →
     (told → told') → files' ≡ files → i' ≡ i →
     WritesStep run.settings (λ digest. digest_line run.form run.settings.algorithm digest name) told' files' i'
     (Err fault) mid new → (part : List ℕ) × IsPartOfDigestLine run told files i fault part × Appends mid new part
-part_of_digest_line run told told' files files' i i' name Unopened mid new named still same index step =
-    ([], refl, appends_kept mid new step)
-part_of_digest_line run told told' files files' i i' name (Digest cause) mid new named still same index step =
-    ([], refl, appends_kept mid new step)
-part_of_digest_line run told told' files files' i i' name DigestLineMemory mid new named still same index step =
-    ([], refl, appends_kept mid new step)
-part_of_digest_line run told told' files files' i i' name DigestLineUnwritten mid new named still same index step =
+part_of_digest_line run told told' files files' i i' name (DigestLine (Output count)) mid new named still same index step =
     let whole : digest_line run.form run.settings.algorithm step.0 name ≡ digest_line_at run i step.0
     = sym (line_named run i name step.0 named) in
     let digest : IsDigestAt run.settings told files i step.0
     = same_digest run.settings told told' files files' i i' step.0 still same index step.1 in
-    let fewer : step.2 < length (digest_line_at run i step.0)
-    = subst (λ (text : List ℕ). step.2 < length text) whole step.3 in
-    let added : Appends mid new (take step.2 (digest_line_at run i step.0))
-    = subst (λ (text : List ℕ). Appends mid new (take step.2 text)) whole step.4 in
-    (take step.2 (digest_line_at run i step.0), (step.0, digest, step.2, fewer, refl), added)
+    let fewer : count < length (digest_line_at run i step.0)
+    = subst (λ (text : List ℕ). count < length text) whole step.2 in
+    let added : Appends mid new (take count (digest_line_at run i step.0))
+    = subst (λ (text : List ℕ). Appends mid new (take count text)) whole step.3 in
+    (take count (digest_line_at run i step.0), (step.0, digest, fewer, refl), added)
+part_of_digest_line run told told' files files' i i' name (DigestLine print.Memory) mid new named still same index step =
+    ([], refl, appends_kept mid new step)
+part_of_digest_line run told told' files files' i i' name (Unopened at) mid new named still same index step =
+    ([], refl, appends_kept mid new step)
+part_of_digest_line run told told' files files' i i' name (Digest cause at) mid new named still same index step =
+    ([], refl, appends_kept mid new step)
+part_of_digest_line run told told' files files' i i' name (Descriptor count) mid new named still same index step =
+    ([], refl, appends_kept mid new step)
+part_of_digest_line run told told' files files' i i' name (ending.Words cause) mid new named still same index step =
+    ([], refl, appends_kept mid new step)
+part_of_digest_line run told told' files files' i i' name (ending.Line cause) mid new named still same index step =
+    ([], refl, appends_kept mid new step)
+part_of_digest_line run told told' files files' i i' name (ending.Option cause) mid new named still same index step =
+    ([], refl, appends_kept mid new step)
 
 -- a file that has a digest is before the first that has none, if no file before it is absent or too large
 before_first_without_digest : (s : TreeSettingsFields) (files : List (Option (List ℕ))) (f : ℕ) → HasDigestAt s files f → f ≤ first_without_digest s files →
@@ -137,29 +145,31 @@ before_first_without_digest s files f one within =
     omega (arith, more)
 
 -- a step that stops ends the run, if no file before its own is absent or too large
-pub stops_run : (s : TreeSettingsFields) (run step : OpenerChange) (f : ℕ) (fault : RunFault) →
+pub stops_run : (s : TreeSettingsFields) (run step : OpenerChange) (f : ℕ) (fault : Fault) →
     (run.told ↔ step.told) → step.files ≡ run.files → step.next_before ≡ f → (run.told → f ≤ first_without_digest s run.files) →
     run.failures_before ≤ step.failures_before → run.failures_after ≡ step.failures_after →
     StopsStep s step fault → HasReason s run f fault
-stops_run s run step f Unopened told same index within le after (inl absent) =
+stops_run s run step f (Unopened name) told same index within le after (inl absent) =
     let is : slice_get run.files f ≡ Some None = rw (same, index) at absent.1 in
     inl (told.1 absent.0, is, passes_to (has_digest s) run.files f None is refl (within (told.1 absent.0)))
-stops_run s run step f Unopened told same index within le after (inr rose) = inr (omega (arith, le, after, rose))
-stops_run s run step f (Digest TooLarge) told same index within le after large = λ t.
+stops_run s run step f (Unopened name) told same index within le after (inr rose) = inr (omega (arith, le, after, rose))
+stops_run s run step f (Digest TooLarge name) told same index within le after large = λ t.
     let large' : IsLargeAt s run.files f = rw (same, index) at (large (told.0 t)) in
     (large', passes_to (has_digest s) run.files f (Some large'.0) large'.1 (ap not large'.2) (within t))
-stops_run s run step f (Digest (SourceShort i)) told same index within le after reason = λ t. reason (told.0 t)
-stops_run s run step f (Digest (SourceFailed i)) told same index within le after reason = (
+stops_run s run step f (Digest (SourceShort i) name) told same index within le after reason = λ t. reason (told.0 t)
+stops_run s run step f (Digest (SourceFailed i) name) told same index within le after reason = (
   λ t. before_first_without_digest s run.files f (rw (same, index) at (reason.0 (told.0 t))) (within t),
   omega (arith, le, after, reason.1),
 )
-stops_run s run step f (Digest (DeviceFailed level block)) told same index within le after reason = reason
-stops_run s run step f (Digest Memory) told same index within le after one =
+stops_run s run step f (Digest (DeviceFailed level block) name) told same index within le after reason = reason
+stops_run s run step f (Digest Memory name) told same index within le after one =
     λ t. before_first_without_digest s run.files f (rw (same, index) at (one (told.0 t))) (within t)
-stops_run s run step f DigestLineMemory told same index within le after one =
+stops_run s run step f (DigestLine cause) told same index within le after one =
     λ t. before_first_without_digest s run.files f (rw (same, index) at (one (told.0 t))) (within t)
-stops_run s run step f DigestLineUnwritten told same index within le after one =
-    λ t. before_first_without_digest s run.files f (rw (same, index) at (one (told.0 t))) (within t)
+stops_run s run step f (Descriptor count) told same index within le after reason = reason
+stops_run s run step f (ending.Words cause) told same index within le after reason = reason
+stops_run s run step f (ending.Line cause) told same index within le after reason = reason
+stops_run s run step f (ending.Option cause) told same index within le after reason = reason
 
 -- what holds of a run that is done
 pub of_done : {X P : Type 0} (outcome : Result X Fault) → IsOk outcome → OnOk outcome P → P
@@ -180,13 +190,5 @@ pub ended_with : {X : Type 0} (run : DigestInput) (opener : OpenerChange) (out o
 ended_with run opener out out' msgs msgs' (Ok done) status is one stops message =
     let none : status ≡ 0 = is in
     absurd (omega (arith, none, one))
-ended_with run opener out out' msgs msgs' (Err (ending.Words cause)) status is one stops message = absurd stops
-ended_with run opener out out' msgs msgs' (Err (ending.Line cause)) status is one stops message = absurd stops
-ended_with run opener out out' msgs msgs' (Err (ending.Option cause)) status is one stops message = absurd stops
-ended_with run opener out out' msgs msgs' (Err (ending.File cause name)) status is one stops message = record {
-  f = stops.0;
-  fault = cause;
-  fails = stops.2;
-  message = subst (λ (n : List ℕ). AppendsPrefix (run_fault_message cause n) msgs msgs') stops.1 message;
-}
-ended_with run opener out out' msgs msgs' (Err (ending.Outputs cause name)) status is one stops message = absurd stops
+ended_with run opener out out' msgs msgs' (Err fault) status is one stops message =
+    record { f = stops.0; fault = fault; fails = stops.1; message = message }

@@ -1,20 +1,19 @@
 -- How a run ends: done, or at its first fault. The status and the message of each fault, and whose call it was
 -- (fsverity(1); statuses and messages are this project's own).
-use Rattle.std.specs.Prelude.{◌≤◌, ℕ, List, Option, Some, None, Result, Ok, Err, IfSome}
+use Rattle.std.specs.Prelude.{◌≡◌, ◌≤◌, ℕ, List, Option, Some, None, Result, Ok, Err, IfSome}
 use Rattle.std.specs.Io.KnownBytes.{Keeps}
 use Rattle.command_line.specs.Writing.{AppendsPrefix}
 use Rattle.command_line.specs.SystemWords.{not_utf8_message}
 use Rattle.command_line.specs.declared.words.system_words.WordsFault.TheVariants as words
 use Rattle.command_line.specs.declared.words.line_fault.LineFault.TheVariants as line
+use Rattle.command_line.specs.declared.writing.print_fault.PrintFault.{PrintFault}
+use Rattle.command_line.specs.declared.writing.print_fault.PrintFault.TheVariants as print
 use Rattle.verity_io.specs.Counting.{Side, TheOpener}
 use Rattle.fsverity.specs.Runs.FileDigest as digesting
-use Rattle.fsverity.specs.Texts.Messages.{memory_message, option_message, output_fault_message, run_fault_message}
+use Rattle.fsverity.specs.Texts.Messages.{digest_message, memory_message, option_message, unopened_message}
+use Rattle.fsverity.specs.Texts.Messages.{unwritten_descriptor_message, unwritten_output_message}
 use Rattle.fsverity.specs.declared.fault.Fault.{Fault}
 use Rattle.fsverity.specs.declared.fault.Fault.TheVariants as fault
-use Rattle.fsverity.specs.declared.runs.output_fault.OutputFault.{OutputFault}
-use Rattle.fsverity.specs.declared.runs.output_fault.OutputFault.TheVariants as output
-use Rattle.fsverity.specs.declared.runs.run_fault.RunFault.{RunFault}
-use Rattle.fsverity.specs.declared.runs.run_fault.RunFault.TheVariants as run
 
 -- all is done
 abbrev pub status_done : ℕ
@@ -39,8 +38,15 @@ status_of (fault.Words words.Memory) = status_failed
 status_of (fault.Line (line.Refused error)) = status_refused
 status_of (fault.Line line.Memory) = status_failed
 status_of (fault.Option cause) = status_refused
-status_of (fault.File cause name) = status_failed
-status_of (fault.Outputs cause name) = status_failed
+status_of (fault.Unopened name) = status_failed
+status_of (fault.Digest cause name) = status_failed
+status_of (fault.Descriptor count) = status_failed
+status_of (fault.DigestLine cause) = status_failed
+
+-- the message of a line that isn't written whole
+abbrev pub print_message : PrintFault → List ℕ
+print_message print.Memory = memory_message
+print_message (print.Output count) = unwritten_output_message
 
 -- the message of a fault; clap's own text, for a line that it refuses, has no definition here
 abbrev pub message_of : Fault → Option (List ℕ)
@@ -49,26 +55,22 @@ message_of (fault.Words words.Memory) = Some memory_message
 message_of (fault.Line (line.Refused error)) = None
 message_of (fault.Line line.Memory) = Some memory_message
 message_of (fault.Option cause) = Some (option_message cause)
-message_of (fault.File cause name) = Some (run_fault_message cause name.now)
-message_of (fault.Outputs cause name) = Some (output_fault_message cause name.now)
+message_of (fault.Unopened name) = Some (unopened_message name.now)
+message_of (fault.Digest cause name) = Some (digest_message cause name.now)
+message_of (fault.Descriptor count) = Some unwritten_descriptor_message
+message_of (fault.DigestLine cause) = Some (print_message cause)
 
--- whose call failed, in a run over files; an absent file isn't opened either
-abbrev pub run_side : RunFault → Option Side
-run_side run.Unopened = Some TheOpener
-run_side (run.Digest cause) = digesting.side_of cause
-run_side run.DigestLineMemory = None
-run_side run.DigestLineUnwritten = None
-
--- whose call failed, in a run with output files
-abbrev pub output_side : OutputFault → Option Side
-output_side (output.Digest cause) = digesting.side_of cause
-output_side other = None
-
--- whose call, of a source, a device or an opener, failed
+-- whose call, of a source, a device or an opener, failed; an absent file isn't opened either
 abbrev pub side_of : Fault → Option Side
-side_of (fault.File cause name) = run_side cause
-side_of (fault.Outputs cause name) = output_side cause
+side_of (fault.Unopened name) = Some TheOpener
+side_of (fault.Digest cause name) = digesting.side_of cause
 side_of cause = None
+
+-- the file that a fault names, if it names one, has this name
+abbrev pub IsAtFile : List ℕ → Fault → Type 0
+IsAtFile file (fault.Unopened name) = name.now ≡ file
+IsAtFile file (fault.Digest cause name) = name.now ≡ file
+IsAtFile file cause = Unit {0}
 
 -- the status of a run, by how it ended
 abbrev pub result_status : {X : Type 0} → Result X Fault → ℕ

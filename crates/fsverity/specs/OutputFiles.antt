@@ -3,46 +3,46 @@
 use Rattle.std.specs.Prelude.{◌≡◌, ◌⊎◌, ℕ, List, [], Option, Some, None, IsSome, is_some, option_map}
 use Rattle.std.specs.Borrow.{Bor}
 use Rattle.command_line.specs.declared.files.identity.FileIdentity.{FileIdentity}
+use Rattle.command_line.specs.declared.files.opening.MeasuredFile.{MeasuredFile}
+use Rattle.command_line.specs.declared.files.opening.OpenedFile.{OpenedFile}
 use Rattle.verity_plan.specs.Settings.{TreeSettingsFields}
-use Rattle.fsverity.specs.declared.openers.input_file.InputFile.{InputFile}
-use Rattle.fsverity.specs.declared.program.output_files.OutputFile.{OutputFile}
 use Rattle.fsverity.specs.declared.program.output_files.OutputFiles.{OutputFiles}
 use Rattle.fsverity.specs.declared.program.output_files.OutputNames.{OutputNames}
 use Rattle.fsverity.specs.declared.program.outputs.OutputRequest.{OutputRequest}
-use Rattle.fsverity.specs.declared.program.output_files.written_files.WrittenFiles.{WrittenFiles}
 use Rattle.fsverity.specs.declared.runs.outputs.OutputTask.{OutputTask}
+use Rattle.fsverity.specs.declared.runs.outputs.Written.{Written}
 use Rattle.fsverity.specs.declared.texts.digest_lines.Form.{Form}
 
 -- the names that the output files were asked for by
 abbrev pub names_of : {D W : Type 0} → OutputFiles D W → OutputNames
 names_of files = record {
-  tree = option_map (λ f. f.name) files.tree;
-  descriptor = option_map (λ f. f.name) files.descriptor;
+  tree = option_map (λ f. f.path) files.tree;
+  descriptor = option_map (λ f. f.path) files.descriptor;
 }
 
 -- what these functions, which read a device or a writer, say of a file that may be missing
-abbrev pub tells_in : {D : Type 0} → (D → Type 0) → Option (OutputFile D) → Type 0
+abbrev pub tells_in : {D : Type 0} → (D → Type 0) → Option (OpenedFile D) → Type 0
 tells_in tells None = ⊥
 tells_in tells (Some f) = tells f.file
 
-abbrev pub content_in : {D : Type 0} → (D → List ℕ) → Option (OutputFile D) → List ℕ
+abbrev pub content_in : {D : Type 0} → (D → List ℕ) → Option (OpenedFile D) → List ℕ
 content_in content None = []
 content_in content (Some f) = content f.file
 
-abbrev pub failures_in : {D : Type 0} → (D → ℕ) → Option (OutputFile D) → ℕ
+abbrev pub failures_in : {D : Type 0} → (D → ℕ) → Option (OpenedFile D) → ℕ
 failures_in failures None = 0
 failures_in failures (Some f) = failures f.file
 
-abbrev pub contents_in : {W : Type 0} → (W → Option (List ℕ)) → Option (OutputFile W) → Option (List ℕ)
+abbrev pub contents_in : {W : Type 0} → (W → Option (List ℕ)) → Option (OpenedFile W) → Option (List ℕ)
 contents_in contents None = None
 contents_in contents (Some f) = contents f.file
 
 -- the task of an input file: its own name and length, and what there are output files for
-abbrev pub file_task : {S D W : Type 0} → TreeSettingsFields → Form → InputFile S → OutputFiles D W → OutputTask
+abbrev pub file_task : {S D W : Type 0} → TreeSettingsFields → Form → MeasuredFile S → OutputFiles D W → OutputTask
 file_task settings form input files = record {
   settings = settings;
   form = form;
-  name = input.name;
+  name = input.opened.path;
   size = input.length;
   wants_tree = is_some files.tree;
   wants_descriptor = is_some files.descriptor;
@@ -78,10 +78,10 @@ pub record FoundBySystem (gives_path : List ℕ → Option FileIdentity → Type
 
 -- the value says that what was asked for was written: of the file of this name, by these settings and in this form, to
 -- the output files of these names
-pub record SaysWritten (settings : TreeSettingsFields) (request : OutputRequest) (done : WrittenFiles) : Type 0 where
-  pub settings_are : done.written.task.settings ≡ settings
-  pub form : done.written.task.form ≡ request.form
-  pub name : done.written.task.name ≡ request.name
-  pub wants_tree : done.written.task.wants_tree ≡ is_some request.outputs.tree
-  pub wants_descriptor : done.written.task.wants_descriptor ≡ is_some request.outputs.descriptor
+pub record SaysWritten (settings : TreeSettingsFields) (request : OutputRequest) (done : Written) : Type 0 where
+  pub settings_are : done.task.settings ≡ settings
+  pub form : done.task.form ≡ request.form
+  pub name : done.task.name ≡ request.name
+  pub wants_tree : done.task.wants_tree ≡ is_some request.outputs.tree
+  pub wants_descriptor : done.task.wants_descriptor ≡ is_some request.outputs.descriptor
   pub names : done.names ≡ request.outputs

@@ -9,9 +9,9 @@ use Rattle.fsverity.specs.Options.Settings.{digest_settings}
 use Rattle.fsverity.specs.Runs.Digested.{AreDigestLines}
 use Rattle.fsverity.specs.Texts.Lines.{form_of}
 use Rattle.fsverity.specs.declared.program.done.Done.{Done}
-use Rattle.fsverity.specs.declared.program.done.Done.TheVariants.{Printed, Written}
-use Rattle.fsverity.specs.declared.program.printed_files.PrintedFiles.{PrintedFiles}
-use Rattle.fsverity.specs.declared.program.output_files.written_files.WrittenFiles.{WrittenFiles}
+use Rattle.fsverity.specs.declared.program.done.Done.TheVariants as done
+use Rattle.fsverity.specs.declared.runs.digest.Printed.{Printed}
+use Rattle.fsverity.specs.declared.runs.outputs.Written.{Written}
 use Rattle.fsverity.specs.declared.options.option_fault.FsOptionFault.{FsOptionFault}
 use Rattle.fsverity.specs.declared.texts.digest_lines.Form.{Form}
 use Rattle.fsverity.specs.declared.words.line.Line.{Line}
@@ -37,24 +37,24 @@ CarriesOut s line = PrintsDigestLines s (form_of line.compact line.for_builtin_s
 
 -- the value says that by these settings and in the line's form as many lines were written as the line names files, and
 -- that it names no output file of one of them
-pub record SaysPrintedFor (s : TreeSettingsFields) (line : Line) (done : PrintedFiles) : Type 0 where
-  pub settings : done.printed.settings ≡ s
-  pub form : done.printed.form ≡ form_of line.compact line.for_builtin_sig
-  pub lines : done.printed.lines ≡ length line.files.items
+pub record SaysPrintedFor (s : TreeSettingsFields) (line : Line) (done : Printed) : Type 0 where
+  pub settings : done.settings ≡ s
+  pub form : done.form ≡ form_of line.compact line.for_builtin_sig
+  pub lines : done.lines ≡ length line.files.items
   pub no_output : names_output line ≡ true → length line.files.items ≢ 1
 
 -- the value says that all that the line asks for was written: of its one file, by these settings and in its form, to
 -- the output files that it names
-pub record SaysWrittenFor (s : TreeSettingsFields) (line : Line) (done : WrittenFiles) : Type 0 where
-  pub settings : done.written.task.settings ≡ s
-  pub form : done.written.task.form ≡ form_of line.compact line.for_builtin_sig
-  pub name : done.written.task.name.now ∷ [] ≡ map string_bytes line.files.items
-  pub wants_tree : done.written.task.wants_tree ≡ is_some line.out_merkle_tree
-  pub wants_descriptor : done.written.task.wants_descriptor ≡ is_some line.out_descriptor
+pub record SaysWrittenFor (s : TreeSettingsFields) (line : Line) (done : Written) : Type 0 where
+  pub settings : done.task.settings ≡ s
+  pub form : done.task.form ≡ form_of line.compact line.for_builtin_sig
+  pub name : done.task.name.now ∷ [] ≡ map string_bytes line.files.items
+  pub wants_tree : done.task.wants_tree ≡ is_some line.out_merkle_tree
+  pub wants_descriptor : done.task.wants_descriptor ≡ is_some line.out_descriptor
   pub tree : option_copied done.names.tree ≡ option_map string_bytes line.out_merkle_tree
   pub descriptor : option_copied done.names.descriptor ≡ option_map string_bytes line.out_descriptor
 
 -- the value says that what the line asks for was done
 abbrev pub SaysDone : TreeSettingsFields → Line → Done → Type 0
-SaysDone s line (Printed done) = SaysPrintedFor s line done
-SaysDone s line (Written done) = SaysWrittenFor s line done
+SaysDone s line (done.Printed done) = SaysPrintedFor s line done
+SaysDone s line (done.Written done) = SaysWrittenFor s line done

@@ -2,12 +2,10 @@
 ghost use Rattle.std.specs.Prelude.{◌≡◌, ◌<◌, IfSome, IsOk, IsTrue};
 ghost use Rattle.std.specs.Io.KnownBytes.{Appends};
 ghost use Rattle.command_line.specs.Writing.{AppendsPrefix};
-ghost use Rattle.fsverity.specs.Faults.{IsStatus, IsTold, message_of, result_status, status_of};
-ghost use Rattle.fsverity.specs.Texts.Messages.{digest_message, output_fault_message, run_fault_message};
+ghost use Rattle.fsverity.specs.Faults.{IsStatus, IsTold, message_of, print_message, result_status, status_of};
+ghost use Rattle.fsverity.specs.Texts.Messages.{digest_message};
 
 use crate::runs::completed::Completed;
-use crate::runs::output_fault::OutputFault;
-use crate::runs::run_fault::RunFault;
 use crate::texts::messages::{CANNOT_OPEN, DESCRIPTOR_UNWRITTEN, OUT_OF_MEMORY, OUTPUT_UNWRITTEN};
 use crate::words::usage::USAGE;
 use crate::{DigestFault, FsOptionFault, LineFault, digest_message, option_message};
@@ -26,9 +24,7 @@ const STATUS_FAILED: u8 = 1;
 /// The command line or an option is refused.
 const STATUS_REFUSED: u8 = 2;
 
-/// Why a run ends early. The file's name stands beside the fault of a file. `RunFault` and `OutputFault` are types of
-/// their own since the contract of a run rests on what each excludes: a run over files writes no tree and no
-/// descriptor, and a run with output files begins with an opened file.
+/// Why a run ends early. The file's name stands beside the fault of a file.
 #[derive(Debug, Drop)]
 pub(crate) enum Fault<'a> {
     /// The words of the command line can't be read: one is not UTF-8, or there is no memory for them or their texts.
@@ -37,11 +33,15 @@ pub(crate) enum Fault<'a> {
     Line(LineFault),
     /// An option is refused.
     Option(FsOptionFault),
-    /// A run over files ended at the file of this name; or an input or output file, or a placeholder for a standard
-    /// stream, can't be opened.
-    File(RunFault, &'a str),
-    /// A run over the file of this name, with output files, stopped.
-    Outputs(OutputFault, &'a str),
+    /// The file of this name, of the input or the output, or a placeholder for a standard stream, can't be opened, or
+    /// its length can't be found.
+    Unopened(&'a str),
+    /// The file of this name has no digest, or its tree can't be written.
+    Digest(DigestFault, &'a str),
+    /// The writer took only so many bytes of the descriptor, fewer than all.
+    Descriptor(usize),
+    /// The file's line is not written whole.
+    DigestLine(PrintFault),
 }
 
 impl Fault<'_> {
@@ -57,13 +57,15 @@ impl Fault<'_> {
             Fault::Line(LineFault::Refused(_)) => STATUS_REFUSED,
             Fault::Line(LineFault::Memory) => STATUS_FAILED,
             Fault::Option(_) => STATUS_REFUSED,
-            Fault::File(_, _) => STATUS_FAILED,
-            Fault::Outputs(_, _) => STATUS_FAILED,
+            Fault::Unopened(_) => STATUS_FAILED,
+            Fault::Digest(_, _) => STATUS_FAILED,
+            Fault::Descriptor(_) => STATUS_FAILED,
+            Fault::DigestLine(_) => STATUS_FAILED,
         }
     }
 
-    /// Writes the message of the fault, as far as memory and the writer allow. The answer says whether the writer took
-    /// all of it; of `clap`'s text it isn't known, and the answer is false.
+    /// Writes the message of the fault, as far as memory and the writer allow. The one that a file can't be opened takes no
+    /// memory. The answer says whether the writer took all of it; of `clap`'s text it isn't known, and the answer is false.
     fn write_message<M: Write>(&self, alloc: Global, msgs: &mut M) -> bool
         ensures whole { IsTrue result → IfSome (message_of self.now)
             (Appends (M.contents msgs.old) (M.contents msgs.new)) }
@@ -82,45 +84,11 @@ impl Fault<'_> {
                 false
             }
             Fault::Option(fault) => write_text(option_message(fault), msgs),
-            Fault::File(fault, name) => write_file_message(alloc, fault, name, msgs),
-            Fault::Outputs(fault, name) => write_outputs_message(alloc, fault, name, msgs),
+            Fault::Unopened(name) => write_pieces(&[CANNOT_OPEN, name, ".\n"], msgs),
+            Fault::Digest(fault, name) => write_digest_message(alloc, fault, name, msgs),
+            Fault::Descriptor(_) => write_text(DESCRIPTOR_UNWRITTEN, msgs),
+            Fault::DigestLine(fault) => write_text(print_message(fault), msgs),
         }
-    }
-}
-
-/// Writes why a run over files ended at the file of this name, as far as memory and the writer allow. The message that
-/// a file can't be opened needs no memory. The answer says whether the writer took all of it.
-fn write_file_message<M: Write>(alloc: Global, fault: &RunFault, name: &str, msgs: &mut M) -> bool
-    ensures whole { IsTrue result
-        → Appends (M.contents msgs.old) (M.contents msgs.new) (run_fault_message fault.now name.now) }
-    ensures prefix { AppendsPrefix (run_fault_message fault.now name.now) (M.contents msgs.old) (M.contents msgs.new) }
-{
-    match fault {
-        RunFault::Unopened => write_pieces(&[CANNOT_OPEN, name, ".\n"], msgs),
-        RunFault::Digest(fault) => write_digest_message(alloc, fault, name, msgs),
-        RunFault::DigestLineMemory => write_text(OUT_OF_MEMORY, msgs),
-        RunFault::DigestLineUnwritten => write_text(OUTPUT_UNWRITTEN, msgs),
-    }
-}
-
-/// Writes why a run with output files stopped at the file of this name, as far as memory and the writer allow. The
-/// answer says whether the writer took all of it.
-fn write_outputs_message<M: Write>(
-    alloc: Global,
-    fault: &OutputFault,
-    name: &str,
-    msgs: &mut M,
-) -> bool
-    ensures whole { IsTrue result
-        → Appends (M.contents msgs.old) (M.contents msgs.new) (output_fault_message fault.now name.now) }
-    ensures prefix { AppendsPrefix (output_fault_message fault.now name.now)
-        (M.contents msgs.old) (M.contents msgs.new) }
-{
-    match fault {
-        OutputFault::Digest(fault) => write_digest_message(alloc, fault, name, msgs),
-        OutputFault::Descriptor(_) => write_text(DESCRIPTOR_UNWRITTEN, msgs),
-        OutputFault::DigestLine(PrintFault::Memory) => write_text(OUT_OF_MEMORY, msgs),
-        OutputFault::DigestLine(PrintFault::Output(_)) => write_text(OUTPUT_UNWRITTEN, msgs),
     }
 }
 
@@ -139,6 +107,16 @@ fn write_digest_message<M: Write>(
     match fault {
         DigestFault::Memory => write_text(OUT_OF_MEMORY, msgs),
         fault => write_message(digest_message(alloc, fault, name), msgs),
+    }
+}
+
+/// The message of a line that isn't written whole.
+fn print_message(fault: &PrintFault) -> &'static str
+    ensures { result.now ≡ print_message fault.now }
+{
+    match fault {
+        PrintFault::Memory => OUT_OF_MEMORY,
+        PrintFault::Output(_) => OUTPUT_UNWRITTEN,
     }
 }
 

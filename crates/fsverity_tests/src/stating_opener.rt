@@ -2,7 +2,7 @@
 ghost use Rattle.std.specs.Prelude.{◌≡◌, ℕ, List, [], length};
 
 use fsverity::Opener;
-use verity_tree::{Failed, MemorySource};
+use verity_io::{Failed, MemorySource};
 
 /// Files in memory, each with the length that is stated for it.
 #[derive(Drop)]

@@ -5,7 +5,7 @@ use fixtures::{DESCRIPTOR_SIZE, FILE_SIZE_AT, ROOT_AT, block};
 use fsverity::{DigestOptions, Form, MemoryOpener, digest_settings, run_digest, run_digest_to};
 use sha2::{Digest as Hasher, Sha256};
 use std::alloc::{AllocError, Global};
-use verity_tree::{MemoryDevice, MemorySource};
+use verity_io::{MemoryDevice, MemorySource};
 
 const OPTIONS: DigestOptions<'static> = DigestOptions {
     hash_alg: None,

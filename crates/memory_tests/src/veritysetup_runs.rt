@@ -4,7 +4,7 @@ use fixtures::zeros::{DATA_SIZE, ROOT, TREE_SIZE, tree};
 use fixtures::{SUPERBLOCK_SIZE, block, flip, superblock};
 use std::alloc::{AllocError, Global};
 use std::test::Fail;
-use verity_tree::{MemoryDevice, MemorySource};
+use verity_io::{MemoryDevice, MemorySource};
 use veritysetup::{
     RawOptions, Settings, VerifyInput, run_dump, run_format, run_verify, settings_of,
 };

@@ -1,1 +1,1 @@
-pub mod ReadLemmas
+mod ReadLemmas

@@ -9,7 +9,7 @@ use Rattle.verity_hash.specs.Hashing.{with_zeros}
 use Rattle.verity_plan.specs.Plans.{PlanFields, start_byte_of}
 use Rattle.verity_plan.specs.Settings.{fan}
 use Rattle.verity_plan.proofs.IndexLemmas.{quotient-next}
-use Rattle.verity_tree.proofs.OpenBlockSteps.{chunk-other, chunk-same}
+use Rattle.verity_blocks.proofs.OpenBlocks.DigestsInTurn.{chunk-other, chunk-same}
 use Rattle.read_one_block.specs.Reading.{stored_above}
 
 -- the bytes that were read are those stored above the data block

@@ -7,9 +7,9 @@ use Rattle.verity_plan.specs.Plans.{PlanFields}
 use Rattle.verity_plan.specs.PlanCounts.{level_count_of}
 use Rattle.verity_plan.specs.Settings.{fan}
 use Rattle.verity_hash.specs.Hashing.{with_zeros}
-use Rattle.verity_tree.specs.Levels.{data_blocks}
-use Rattle.verity_tree.specs.Paths.{ChecksBlock, HasCollision, IsAccepted}
-use Rattle.verity_tree.specs.TreeOnDevice.{stored_block}
+use Rattle.verity_blocks.specs.Levels.{data_blocks}
+use Rattle.verity_pass.specs.Paths.{ChecksBlock, HasCollision, IsAccepted}
+use Rattle.verity_blocks.specs.TreeOnDevice.{stored_block}
 use Rattle.read_one_block.specs.declared.image.ReadFault.{ReadFault}
 use Rattle.read_one_block.specs.declared.image.ReadFault.TheVariants.{DataFailed, TreeFailed, Refused}
 

@@ -1,7 +1,7 @@
 -- What is said of a block that isn't handed out.
 use Rattle.std.specs.Prelude.{ℕ, List, ◌++◌, codes}
 use Rattle.std.specs.Fmt.{decimal}
-use Rattle.verity_tree.specs.declared.path.PathFault.TheVariants.{Index, Length, DiffersAt}
+use Rattle.verity_pass.specs.declared.path.PathFault.TheVariants.{Index, Length, DiffersAt}
 use Rattle.read_one_block.specs.declared.image.ReadFault.{ReadFault}
 use Rattle.read_one_block.specs.declared.image.ReadFault.TheVariants.{DataFailed, TreeFailed, Refused}
 

@@ -3,7 +3,7 @@ ghost use Rattle.std.specs.Prelude.{◌≡◌, ◌*◌, ◌<◌, ℕ, List, leng
 ghost use Rattle.verity_io.specs.Counting.{Counts, CountsFailure, TheDevice, TheSource, failed_at};
 ghost use Rattle.verity_plan.specs.PlanCounts.{level_count_of};
 ghost use Rattle.verity_hash.specs.Hashing.{with_zeros};
-ghost use Rattle.verity_tree.specs.Levels.{block_at, data_blocks, root};
+ghost use Rattle.verity_blocks.specs.Levels.{block_at, data_blocks, root};
 ghost use Rattle.read_one_block.specs.Reading.{Answers, IsPathOn, IsRight, WasRead, side_of};
 
 use std::fmt;

@@ -1,10 +1,10 @@
-pub mod LaneWise
-pub mod Pieces
-pub mod Groups
-pub mod Majority
-pub mod Hash32
-pub mod Padding32
-pub mod HashSha1
-pub mod Hash64
-pub mod Padding64
-pub mod OneMessage
+mod Groups
+mod Hash32
+mod Hash64
+mod HashSha1
+mod LaneWise
+mod Majority
+mod OneMessage
+mod Padding32
+mod Padding64
+mod Pieces

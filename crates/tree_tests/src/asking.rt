@@ -6,7 +6,7 @@ use crate::trees::small;
 use std::alloc::Global;
 use std::test::Fail;
 use verity_hash::Digest;
-use verity_tree::{FileBuilder, HashBlock, Plan, TreeBuilder};
+use verity_tree::{FeedFault, FileBuilder, HashBlock, Plan, TreeBuilder};
 
 /// Files that grow from each size to the next: about the ends of blocks and of windows, and where the tree has a level
 /// more. Of each size the number of levels is stated.
@@ -105,7 +105,7 @@ fn files_have_a_root_hash_at_any_time(rt: HostRuntime) -> Result<(), Fail> {
 }
 
 /// The last hash block by these numbers of a builder of the tree above 17 blocks of 512 bytes.
-fn last_of(fed: u64, closed: usize) -> Result<Option<HashBlock>, Fail> {
+fn last_of(fed: u64, closed: usize) -> Result<Result<Option<HashBlock>, FeedFault>, Fail> {
     let plan = Plan::for_blocks(&small()?, 17, 1)?;
     Ok(TreeBuilder { plan, fed, closed }.last_block())
 }
@@ -113,24 +113,24 @@ fn last_of(fed: u64, closed: usize) -> Result<Option<HashBlock>, Fail> {
 #[test]
 fn the_last_hash_block_goes_by_the_numbers(rt: HostRuntime) -> Result<(), Fail> {
     let block = |level, index, start, at| {
-        Some(HashBlock {
+        Ok(Some(HashBlock {
             level,
             index,
             start,
             at,
-        })
+        }))
     };
     let cases = [
-        ((0, 0), None),
-        ((0, 1), None),
-        ((8192, 0), None),
+        ((0, 0), Ok(None)),
+        ((0, 1), Ok(None)),
+        ((8192, 0), Ok(None)),
         ((8192, 1), block(0, 0, 1024, 0)),
         ((8193, 1), block(0, 1, 1536, 0)),
         ((8704, 1), block(0, 1, 1536, 0)),
         ((8704, 2), block(1, 0, 512, 512)),
-        ((8704, 3), None),
-        ((8705, 2), None),
-        ((u64::MAX, usize::MAX), None),
+        ((8704, 3), Err(FeedFault::Level)),
+        ((8705, 2), Err(FeedFault::TooLong)),
+        ((u64::MAX, usize::MAX), Err(FeedFault::Level)),
     ];
     for &((fed, closed), expected) in &cases {
         assert_eq!(rt; last_of(fed, closed)?, expected, "after {fed}, {closed}");

@@ -147,7 +147,7 @@ fn build_in_pieces(
         let fed = feed(&mut builder, memory.as_mut_slice(), next)?;
         rest = rest.get(fed.taken..).ok_or("more than there are")?;
         last = last_after(&fed, last);
-        if builder.last_block() != last {
+        if builder.last_block()? != last {
             return Err("another last hash block".into());
         }
         match fed.hash_block {
@@ -157,7 +157,7 @@ fn build_in_pieces(
         }
     }
     let first = end(&builder, memory.as_mut_slice())?;
-    if end(&builder, memory.as_mut_slice())? != first || builder.last_block() != last {
+    if end(&builder, memory.as_mut_slice())? != first || builder.last_block()? != last {
         return Err("another end".into());
     }
     Ok(first)

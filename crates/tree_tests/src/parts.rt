@@ -1,7 +1,7 @@
 //! Trees that are built from parts, the last part first, beside trees made from plain lists of bytes.
 ghost use Rattle.std.specs.Prelude.{◌≡◌, IfOk};
-ghost use Rattle.verity_tree.specs.Feeding.{feeding_length};
-ghost use Rattle.verity_tree.specs.Parts.{join_length};
+ghost use Rattle.verity_builders.specs.Feeding.{feeding_length};
+ghost use Rattle.verity_builders.specs.Parts.{join_length};
 
 use crate::cases::{Case, Row};
 use crate::feeding::{SHAPES, last_after, next_length, write};
@@ -72,7 +72,7 @@ fn build_part(
         let fed = feed(&mut builder, memory.as_mut_slice(), next)?;
         rest = rest.get(fed.taken..).ok_or("more than there are")?;
         last = last_after(&fed, last);
-        if builder.last_block() != last {
+        if builder.last_block()? != last {
             return Err("another last hash block".into());
         }
         match fed.hash_block {
@@ -82,7 +82,7 @@ fn build_part(
         }
     }
     let first = end(&builder, memory.as_mut_slice())?;
-    if end(&builder, memory.as_mut_slice())? != first || builder.last_block() != last {
+    if end(&builder, memory.as_mut_slice())? != first || builder.last_block()? != last {
         return Err("another end".into());
     }
     Ok(first)
@@ -117,7 +117,7 @@ fn join_parts(
         let fed = give(&mut builder, memory.as_mut_slice(), next)?;
         rest = rest.get(fed.taken..).ok_or("more than there are")?;
         last = last_after(&fed, last);
-        if builder.last_block() != last {
+        if builder.last_block()? != last {
             return Err("another last hash block".into());
         }
         match fed.hash_block {

@@ -5,14 +5,14 @@ use Rattle.std.proofs.lemmas.Bool.Decides.{nat_tests}
 use Rattle.std.specs.Prelude.{◌==◌}
 use Rattle.verity_plan.proofs.CountLemmas.{mul_le}
 use Rattle.verity_plan.specs.PlanCounts.{most_level_count}
-use Rattle.verity_plan.specs.Settings.{TreeSettingsFields, digest_len}
-use Rattle.verity_tree.specs.FileTrees.{FeedsFile, IsFedFileTree, TakesOfFile, last_block_fault, root_fault}
-use Rattle.verity_tree.specs.declared.feed_fault.FeedFault.{FeedFault}
-use Rattle.verity_tree.specs.declared.file_tree_builder.FileFed.{FileFed}
-use Rattle.verity_tree.specs.declared.file_tree_builder.FileHashBlock.{FileHashBlock}
-use Rattle.verity_tree.specs.declared.file_tree_builder.FileTreeBuilder.{FileTreeBuilder}
+use Rattle.verity_plan.specs.Settings.{TreeSettingsFields}
+use Rattle.verity_builders.specs.FileTrees.{FeedsFile, IsFedFileTree, TakesOfFile, last_block_fault}
+use Rattle.verity_builders.specs.declared.feed_fault.FeedFault.{FeedFault}
+use Rattle.verity_builders.specs.declared.file_tree_builder.FileFed.{FileFed}
+use Rattle.verity_builders.specs.declared.file_tree_builder.FileHashBlock.{FileHashBlock}
+use Rattle.verity_builders.specs.declared.file_tree_builder.FileTreeBuilder.{FileTreeBuilder}
 use Rattle.verity_c_api.specs.FileTrees.{HandsOutOfFile, IsFedTreeTo, TakesFilePiece, fed_by_file, fed_of_file}
-use Rattle.verity_c_api.specs.FileTrees.{tree_builder_of, with_last_block, with_tree_end}
+use Rattle.verity_c_api.specs.FileTrees.{tree_builder_of, with_last_block}
 use Rattle.verity_c_api.specs.Parameters.{fsverity_tree_of}
 use Rattle.verity_c_api.specs.Statuses.{fault_of_feed}
 use Rattle.verity_c_api.specs.declared.build.VerityBuild.{VerityBuild}
@@ -113,10 +113,7 @@ pub TakesFilePiece-at : (params : FsverityParams) (s : TreeSettingsFields) (befo
     → IfOk (fsverity_tree_of params)
     (λ t. TakesFilePiece t before (record { fed = after.fed; closed = after.closed }) count fed)
 TakesFilePiece-at params s before after count answer fed made is some h =
-    let last : VerityBuild = record { fed = after.fed; closed = after.closed } in
-    subst (λ (r : Result TreeSettingsFields Fault). IfOk r (λ t. TakesFilePiece t before last count fed)) (sym made)
-    (subst (λ (f : VerityFed). TakesFilePiece s before last count f) (sym is)
-    (TakesFilePiece-by s before after count answer.taken answer.hash_block some h))
+    rw (made, is) (TakesFilePiece-by s before after count answer.taken answer.hash_block some h)
 
 pub HandsOutOfFile-at : (params : FsverityParams) (s : TreeSettingsFields) (before : VerityBuild)
     (after : FileTreeBuilder) (bytes piece memory : List ℕ) (answer : FileFed) (fed : VerityFed)
@@ -127,15 +124,9 @@ pub HandsOutOfFile-at : (params : FsverityParams) (s : TreeSettingsFields) (befo
 HandsOutOfFile-at params s before after bytes piece memory answer fed made is some h =
     let last : VerityBuild = record { fed = after.fed; closed = after.closed } in
     let numbers : VerityFed = fed_of_file s answer in
-    let here : HandsOutOfFile s before last (bytes ++ take answer.taken piece) memory numbers =
-    HandsOutOfFile-by s before after bytes (take answer.taken piece) memory answer.taken answer.hash_block some h in
-    let taken : numbers.taken ≡ answer.taken = taken_of_file s answer numbers refl in
-    let there : HandsOutOfFile s before last (bytes ++ take numbers.taken piece) memory numbers =
-    subst (λ (n : ℕ). HandsOutOfFile s before last (bytes ++ take n piece) memory numbers) (sym taken) here in
-    let all : List ℕ = bytes ++ take fed.taken piece in
-    subst (λ (r : Result TreeSettingsFields Fault). IfOk r (λ t. HandsOutOfFile t before last all memory fed))
-    (sym made)
-    (subst (λ (f : VerityFed). HandsOutOfFile s before last (bytes ++ take f.taken piece) memory f) (sym is) there)
+    rw (made, is) (subst (λ (n : ℕ). HandsOutOfFile s before last (bytes ++ take n piece) memory numbers)
+    (sym (taken_of_file s answer numbers refl))
+    (HandsOutOfFile-by s before after bytes (take answer.taken piece) memory answer.taken answer.hash_block some h))
 
 -- settings whose tree has the level, or the fault of the builder
 pub with_last_block-ok : (made : Result TreeSettingsFields Fault) (s : TreeSettingsFields) (build : VerityBuild)
@@ -152,12 +143,3 @@ pub with_last_block-fault : (made : Result TreeSettingsFields Fault) (s : TreeSe
 with_last_block-fault made s build level room fault is fits some =
     let is_room : (room == s.hash_block) ≡ true = grind (arith, nat_tests, fits) in
     rw (is, is_room, some) refl
-
--- settings with a root hash of the bytes so far, and room for it and the file digest
-pub with_tree_end-ok : (made : Result TreeSettingsFields Fault) (s : TreeSettingsFields) (build : VerityBuild)
-    (root_room digest_room : ℕ) → made ≡ Ok s → root_room ≡ digest_len s → digest_room ≡ digest_len s
-    → root_fault (tree_builder_of s build) ≡ None → with_tree_end made build root_room digest_room ≡ Ok s
-with_tree_end-ok made s build root_room digest_room is root_fits digest_fits none =
-    let is_root : (root_room == digest_len s) ≡ true = grind (arith, nat_tests, root_fits) in
-    let is_digest : (digest_room == digest_len s) ≡ true = grind (arith, nat_tests, digest_fits) in
-    rw (is, is_root, is_digest, none) refl

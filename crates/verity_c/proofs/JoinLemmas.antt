@@ -1,32 +1,30 @@
 -- What the builder of a join has answered is what the library for C says of it.
 use Rattle.std.proofs.Common.{◌≡◌, ◌∙◌, ◌<◌, ◌≤◌, ◌+◌, ◌-◌, ◌^◌, ℕ, false, true, List, Option, Some, None, Result, Ok}
-use Rattle.std.proofs.Common.{Err, IfOk, if◌then◌else◌, arith, ap, inl, inr, refl, subst, sym}
+use Rattle.std.proofs.Common.{IfOk, arith, ap, inl, inr, refl, subst, sym}
 use Rattle.std.proofs.Math.Nat.{one-le-pow, zero-div, zero-mod}
 use Rattle.std.proofs.lemmas.Bool.Decides.{nat_tests}
 use Rattle.std.proofs.lemmas.Bool.{cases_lt}
-use Rattle.std.specs.Prelude.{◌==◌, ◌||◌, ◌*◌, ◌/◌, ◌%◌, MatchOption, nat_lt, not}
+use Rattle.std.specs.Prelude.{◌==◌, ◌||◌, ◌*◌, ◌/◌, ◌%◌, MatchOption, nat_lt}
 use Rattle.verity_plan.specs.Plans.{IsPlan, PlanFields, start_byte_of}
 use Rattle.verity_plan.specs.PlanCounts.{level_count_of, count_under}
 use Rattle.verity_plan.specs.Settings.{digest_len, fan}
 use Rattle.verity_plan.proofs.CountLemmas.{div_ceil-pos, mul_le}
 use Rattle.verity_plan.proofs.FanLemmas.{fan-some}
 use Rattle.verity_plan.proofs.PlanLemmas.{blocks-some}
-use Rattle.verity_tree.specs.Parts.{AreDigests, IsHandedOutOfJoin, IsJoined, IsPlacedOfJoin, Joins, TakesOfJoin}
-use Rattle.verity_tree.specs.Parts.{HasLastOfJoin, counts_none_closed, join_fault, part_fault}
-use Rattle.verity_tree.specs.declared.feed_fault.FeedFault.{FeedFault}
-use Rattle.verity_tree.specs.declared.join_builder.JoinBuilder.{JoinBuilder}
-use Rattle.verity_tree.specs.declared.part_builder.PartFault.{PartFault}
-use Rattle.verity_tree.specs.declared.tree_builder.Fed.{Fed}
-use Rattle.verity_tree.specs.declared.tree_builder.HashBlock.{HashBlock}
-use Rattle.verity_c_api.specs.Building.{fed_by, fed_of, unless}
+use Rattle.verity_builders.specs.Parts.{AreDigests, IsHandedOutOfJoin, IsJoined, IsPlacedOfJoin, Joins, TakesOfJoin}
+use Rattle.verity_builders.specs.Parts.{HasLastOfJoin, digests_fault, part_fault}
+use Rattle.verity_builders.specs.declared.join_builder.JoinBuilder.{JoinBuilder}
+use Rattle.verity_builders.specs.declared.part_builder.PartFault.{PartFault}
+use Rattle.verity_builders.specs.declared.tree_builder.Fed.{Fed}
+use Rattle.verity_blocks.specs.declared.hash_block.HashBlock.{HashBlock}
+use Rattle.verity_c_api.specs.Building.{fed_by, fed_of}
 use Rattle.verity_c_api.specs.Parts.{AreNextDigests, HandsOutOfJoin, IsJoinedTo, StandsLastOfJoin, TakesDigests}
 use Rattle.verity_c_api.specs.Parts.{join_builder_of, last_index_of_join, last_of_join, last_of_join_in, with_digests}
-use Rattle.verity_c_api.specs.Parts.{with_joined_file, with_parts}
+use Rattle.verity_c_api.specs.Parts.{with_parts}
 use Rattle.verity_c_api.specs.Answers.{value_or}
 use Rattle.verity_c_api.specs.declared.build.VerityFed.{VerityFed}
 use Rattle.verity_c_api.specs.declared.build.VerityJoin.{VerityJoin}
 use Rattle.verity_c_api.specs.declared.fault.Fault.{Fault}
-use Rattle.verity_c_api.specs.declared.fault.Fault.TheVariants.{Length, Root}
 
 -- the numbers of a builder, of which with its plan it is made
 abbrev pub join_of : JoinBuilder → VerityJoin
@@ -130,10 +128,7 @@ pub TakesDigests-at : (plan : Result PlanFields Fault) (p : PlanFields) (join : 
     → 0 < p.settings.hash_block → TakesOfJoin before after count answer
     → IfOk plan (λ q. TakesDigests q join (join_of after) count fed)
 TakesDigests-at plan p join before after count answer fed made says is some h =
-    subst (λ (r : Result PlanFields Fault). IfOk r (λ q. TakesDigests q join (join_of after) count fed)) (sym made)
-    (subst (λ (f : VerityFed). TakesDigests p join (join_of after) count f) (sym is)
-    (TakesDigests-by p join after count answer.taken answer.hash_block some
-    (subst (λ (b : JoinBuilder). TakesOfJoin b after count answer) says h)))
+    rw (made, is) (TakesDigests-by p join after count answer.taken answer.hash_block some (rw says at h))
 
 pub HandsOutOfJoin-at : (plan : Result PlanFields Fault) (p : PlanFields) (join : VerityJoin)
     (before after : JoinBuilder) (bytes memory : List ℕ) (answer : Fed) (fed : VerityFed) → plan ≡ Ok p
@@ -141,11 +136,8 @@ pub HandsOutOfJoin-at : (plan : Result PlanFields Fault) (p : PlanFields) (join 
     → Joins before after bytes memory answer.hash_block
     → IfOk plan (λ q. HandsOutOfJoin q join (join_of after) bytes memory fed)
 HandsOutOfJoin-at plan p join before after bytes memory answer fed made says is some h =
-    subst (λ (r : Result PlanFields Fault). IfOk r (λ q. HandsOutOfJoin q join (join_of after) bytes memory fed))
-    (sym made)
-    (subst (λ (f : VerityFed). HandsOutOfJoin p join (join_of after) bytes memory f) (sym is)
-    (HandsOutOfJoin-by p join after bytes memory answer.taken answer.hash_block some
-    (subst (λ (b : JoinBuilder). Joins b after bytes memory answer.hash_block) says h)))
+    rw (made, is)
+    (HandsOutOfJoin-by p join after bytes memory answer.taken answer.hash_block some (rw says at h))
 
 -- the hash block that was handed out last, in the numbers of the struct
 StandsLastOfJoin-by : (p : PlanFields) (join : VerityJoin) (bytes memory : List ℕ) (last : Option HashBlock)
@@ -172,19 +164,6 @@ StandsLastOfJoin-at plan p join b bytes memory last fed made says is some h =
     (subst (λ (f : VerityFed). StandsLastOfJoin p join bytes memory f) (sym is)
     (StandsLastOfJoin-by p join bytes memory last some (subst (λ (a : JoinBuilder).
     MatchOption last (a.closed ≡ 0) (λ block. IsHandedOutOfJoin a bytes memory block)) says h)))
-
--- where there is room for just both, and the join has its root hash, no fault is left
-pub with_joined_file-ok : (p : PlanFields) (join : VerityJoin) (root_room digest_room : ℕ)
-    → root_room ≡ digest_len p.settings → digest_room ≡ digest_len p.settings
-    → join_fault (join_builder_of p join) ≡ None → with_joined_file (Ok p) join root_room digest_room ≡ Ok p
-with_joined_file-ok p join root_room digest_room root_is digest_is none =
-    let one : (root_room == digest_len p.settings) ≡ true = grind (arith, nat_tests, root_is) in
-    let other : (digest_room == digest_len p.settings) ≡ true = grind (arith, nat_tests, digest_is) in
-    let with_fault : Option FeedFault → Result PlanFields Fault = λ fault.
-    if not (root_room == digest_len p.settings) then Err Root
-    else (if not (digest_room == digest_len p.settings) then Err Length else unless fault p) in
-    let left : with_fault None ≡ Ok p = rw (one, other) refl in
-    ap with_fault none ∙ left
 
 -- what a struct names last, by the numbers of the hash block that its builder names
 last_of_join-placed : (p : PlanFields) (join : VerityJoin) (answer : Option HashBlock)
@@ -215,23 +194,20 @@ last_of_join-placed p join (Some block) few low named =
     ∙ ap (λ (j : ℕ). start_byte_of p (join.level + join.closed - 1) j) index in
     rw (test, at, start, index, level) refl
 
--- the same of the plan that parameters make
+-- the same of the plan that parameters make, if the numbers have no fault
 pub last_of_join-at : (plan : Result PlanFields Fault) (p : PlanFields) (join : VerityJoin) (b : JoinBuilder)
     (answer : Option HashBlock) (old fed : VerityFed) → with_parts plan join.level ≡ Ok p → b ≡ join_builder_of p join
-    → fed ≡ fed_of p (record { taken = 0; hash_block = answer }) → join.level + join.closed ≤ level_count_of p
-    → join.taken ≤ count_under p join.level → counts_none_closed (join_builder_of p join) ≡ false
+    → fed ≡ fed_of p (record { taken = 0; hash_block = answer }) → None ≡ digests_fault b 0
     → MatchOption answer (HasLastOfJoin b → ⊥) (λ block. HasLastOfJoin b × IsPlacedOfJoin b block)
     → fed ≡ value_or old (last_of_join_in (with_digests (with_parts plan join.level) join 0) join)
-last_of_join-at plan p join b answer old fed made says is low few apart named =
-    let levels : nat_lt (level_count_of p) (join.level + join.closed) ≡ false = grind (arith, nat_tests, low) in
-    let none : 0 / digest_len p.settings ≡ 0 = zero-div (digest_len p.settings) in
-    let more : nat_lt (count_under p join.level) (join.taken + 0 / digest_len p.settings) ≡ false =
-    rw none (grind (arith, nat_tests, few)) in
+last_of_join-at plan p join b answer old fed made says is right named =
+    let none : None ≡ digests_fault (join_builder_of p join) 0 = right ∙ ap (λ (a : JoinBuilder). digests_fault a 0) says in
+    let zero : 0 / digest_len p.settings ≡ 0 = zero-div (digest_len p.settings) in
     let whole : (0 % digest_len p.settings == 0) ≡ true =
     rw (zero-mod (digest_len p.settings)) (grind (arith, nat_tests)) in
-    let taken : with_digests (Ok p) join 0 ≡ Ok p = rw (whole, levels, apart, more) refl in
+    let taken : with_digests (Ok p) join 0 ≡ Ok p = rw (whole, ← none) refl in
     is
-    ∙ last_of_join-placed p join answer few low
+    ∙ last_of_join-placed p join answer (grind (arith, nat_tests, none, zero)) (grind (arith, nat_tests, none))
     (subst (λ (a : JoinBuilder). MatchOption answer (HasLastOfJoin a → ⊥)
     (λ block. HasLastOfJoin a × IsPlacedOfJoin a block)) says named)
     ∙ sym (ap (λ (r : Result PlanFields Fault). value_or old (last_of_join_in r join))

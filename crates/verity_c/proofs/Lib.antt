@@ -1,4 +1,4 @@
-pub mod FileTreeLemmas
-pub mod JoinLemmas
-pub mod LevelLemmas
-pub mod PartLemmas
+mod FileTreeLemmas
+mod JoinLemmas
+mod LevelLemmas
+mod PartLemmas

@@ -5,10 +5,10 @@ use Rattle.std.proofs.lemmas.Bool.Decides.{nat_tests}
 use Rattle.std.specs.Prelude.{◌==◌, MatchOption}
 use Rattle.verity_plan.specs.Plans.{PlanFields}
 use Rattle.verity_plan.proofs.CountLemmas.{mul_le}
-use Rattle.verity_tree.specs.Parts.{FeedsPart, IsFedPart, IsHandedOutOfPart, IsPlacedOfPart, TakesOfPart}
-use Rattle.verity_tree.specs.declared.part_builder.PartBuilder.{PartBuilder}
-use Rattle.verity_tree.specs.declared.tree_builder.Fed.{Fed}
-use Rattle.verity_tree.specs.declared.tree_builder.HashBlock.{HashBlock}
+use Rattle.verity_builders.specs.Parts.{FeedsPart, IsFedPart, IsHandedOutOfPart, IsPlacedOfPart, TakesOfPart}
+use Rattle.verity_builders.specs.declared.part_builder.PartBuilder.{PartBuilder}
+use Rattle.verity_builders.specs.declared.tree_builder.Fed.{Fed}
+use Rattle.verity_blocks.specs.declared.hash_block.HashBlock.{HashBlock}
 use Rattle.verity_c_api.specs.Building.{fed_by, fed_of}
 use Rattle.verity_c_api.specs.Parts.{HandsOutOfPart, IsFedPartTo, StandsLastOfPart, TakesPartPiece, part_builder_of}
 use Rattle.verity_c_api.specs.declared.build.VerityFed.{VerityFed}
@@ -99,10 +99,7 @@ pub TakesPartPiece-at : (plan : Result PlanFields Fault) (p : PlanFields) (part 
     → TakesOfPart before after count answer
     → IfOk plan (λ q. TakesPartPiece q part (part_of after) count fed)
 TakesPartPiece-at plan p part before after count answer fed made says is some h =
-    subst (λ (r : Result PlanFields Fault). IfOk r (λ q. TakesPartPiece q part (part_of after) count fed)) (sym made)
-    (subst (λ (f : VerityFed). TakesPartPiece p part (part_of after) count f) (sym is)
-    (TakesPartPiece-by p part after count answer.taken answer.hash_block some
-    (subst (λ (b : PartBuilder). TakesOfPart b after count answer) says h)))
+    rw (made, is) (TakesPartPiece-by p part after count answer.taken answer.hash_block some (rw says at h))
 
 pub HandsOutOfPart-at : (plan : Result PlanFields Fault) (p : PlanFields) (part : VerityPart)
     (before after : PartBuilder) (bytes piece memory : List ℕ) (answer : Fed) (fed : VerityFed) → plan ≡ Ok p
@@ -110,18 +107,11 @@ pub HandsOutOfPart-at : (plan : Result PlanFields Fault) (p : PlanFields) (part 
     → FeedsPart before after bytes (take answer.taken piece) memory answer.hash_block
     → IfOk plan (λ q. HandsOutOfPart q part (part_of after) (bytes ++ take fed.taken piece) memory fed)
 HandsOutOfPart-at plan p part before after bytes piece memory answer fed made says is some h =
-    let last : VerityPart = part_of after in
     let numbers : VerityFed = fed_of p answer in
-    let feeds : FeedsPart (part_builder_of p part) after bytes (take answer.taken piece) memory answer.hash_block =
-    subst (λ (b : PartBuilder). FeedsPart b after bytes (take answer.taken piece) memory answer.hash_block) says h in
-    let here : HandsOutOfPart p part last (bytes ++ take answer.taken piece) memory numbers =
-    HandsOutOfPart-by p part after bytes (take answer.taken piece) memory answer.taken answer.hash_block some feeds in
-    let taken : numbers.taken ≡ answer.taken = taken_is p answer numbers refl in
-    let there : HandsOutOfPart p part last (bytes ++ take numbers.taken piece) memory numbers =
-    subst (λ (n : ℕ). HandsOutOfPart p part last (bytes ++ take n piece) memory numbers) (sym taken) here in
-    let all : List ℕ = bytes ++ take fed.taken piece in
-    subst (λ (r : Result PlanFields Fault). IfOk r (λ q. HandsOutOfPart q part last all memory fed)) (sym made)
-    (subst (λ (f : VerityFed). HandsOutOfPart p part last (bytes ++ take f.taken piece) memory f) (sym is) there)
+    rw (made, is) (subst (λ (n : ℕ). HandsOutOfPart p part (part_of after) (bytes ++ take n piece) memory numbers)
+    (sym (taken_is p answer numbers refl))
+    (HandsOutOfPart-by p part after bytes (take answer.taken piece) memory answer.taken answer.hash_block some
+    (rw says at h)))
 
 -- the hash block that was handed out last, in the numbers of the struct
 StandsLastOfPart-by : (p : PlanFields) (part : VerityPart) (bytes memory : List ℕ) (last : Option HashBlock)

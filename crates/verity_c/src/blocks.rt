@@ -7,8 +7,8 @@ ghost use Rattle.verity_c_api.specs.Parameters.{fsverity_plan_of, plan_of};
 use crate::plans::{fsverity_plan_of, plan_of};
 use verity_c_api::{Fault, FsverityParams, VerityParams, path_status};
 use verity_hash::Digest;
+use verity_pass::{PathFault, check_block};
 use verity_plan::{Plan, TreeSettings};
-use verity_tree::{PathFault, check_block};
 
 /// Checks data block `index`, counted from 0, by its path: the hash blocks above it, one after another, level 0 first.
 ///

@@ -1,16 +1,20 @@
 //! Building a file's fs-verity tree as pieces of the file come, whose length isn't known before.
 ghost use Rattle.std.specs.Prelude.{◌≡◌, ◌≢◌, ◌+◌, ℕ, List, [], ◌++◌, length, Err, IfErr, IfOk, Ok};
+ghost use Rattle.verity_hash.specs.declared.salting.SaltRule.TheVariants.{PaddedBefore};
+ghost use Rattle.verity_plan.specs.Settings.{digest_len};
 ghost use Rattle.verity_c_api.specs.Answers.{value_or};
 ghost use Rattle.verity_c_api.specs.Building.{IsFedFileTo, digest_of_fed, file_memory_length_in, file_memory_length_of};
 ghost use Rattle.verity_c_api.specs.Building.{file_root_in, with_file_end, with_file_memory, with_file_piece};
+ghost use Rattle.verity_c_api.specs.FileTrees.{with_tree_end};
 ghost use Rattle.verity_c_api.specs.Parameters.{fsverity_settings_of, fsverity_tree_of};
 ghost use Rattle.verity_c_api.specs.Statuses.{done, status_of};
+ghost use Rattle.verity_c_api.specs.declared.build.VerityBuild.{VerityBuild};
 
-use crate::files::{fsverity_file_digest, set_digest};
+use crate::files::set_root_and_digest;
 use crate::plans::{fsverity_settings_of, fsverity_tree_of};
+use verity_builders::FileBuilder;
 use verity_c_api::{DONE, Fault, FsverityParams};
 use verity_plan::{SettingFault, TreeSettings};
-use verity_tree::FileBuilder;
 
 /// The length of the memory that a file's tree is built in, in bytes: a block for each level that the tree of the
 /// largest file has (Linux kernel, fs-verity page, "Merkle tree"), and a window of up to eight data blocks. The size in
@@ -116,25 +120,18 @@ pub extern "C" fn fsverity_build_end(
     ensures stays { (fed : List ℕ) → IsFedFileTo params.now memory.old fed → IsFedFileTo params.now memory.new fed }
 {
     let made = fsverity_settings_of(params);
-    let tree = match tree_in(&made, params, memory.len()) {
+    let tree = match tree_at_end(&made, params, memory.len(), root.len(), digest.len()) {
         Ok(tree) => tree,
         Err(fault) => return fault.status(),
     };
-    let digest_len = tree.algorithm().digest_len();
-    if root.len() != digest_len {
-        return Fault::Root.status();
-    }
-    if digest.len() != digest_len {
-        return Fault::Length.status();
-    }
     let builder = FileBuilder {
         settings: *tree,
         fed: params.size,
     };
     match builder.end(memory) {
-        Ok(answer) => {
-            set_digest(&answer, root);
-            fsverity_file_digest(params, root, digest)
+        Ok(hash) => {
+            set_root_and_digest(tree, params.size, &hash, root, digest);
+            DONE
         }
         Err(fault) => Fault::of_feed(fault).status(),
     }
@@ -161,4 +158,37 @@ pub(crate) fn tree_in<'a>(
         Ok(_) => Err(Fault::Length),
         Err(fault) => Err(Fault::of_setting(*fault)),
     }
+}
+
+/// The same, if there is room for just a root hash and a file digest, too; or the first fault: one of `tree_in`, `Root`,
+/// `Length` (the file digest's).
+pub(crate) fn tree_at_end<'a>(
+    made: &'a Result<TreeSettings, SettingFault>,
+    params: &FsverityParams,
+    room: usize,
+    root_room: usize,
+    digest_room: usize,
+) -> Result<&'a TreeSettings, Fault>
+    requires { made.now ≡ fsverity_settings_of params.now }
+    ensures value { IfOk result (λ tree. with_file_memory (fsverity_tree_of params.now) room ≡ Ok tree.now) }
+    ensures made { IfOk result (λ tree. fsverity_tree_of params.now ≡ Ok tree.now) }
+    ensures memory { IfOk result (λ tree. room ≡ file_memory_length_of tree.now) }
+    ensures root { IfOk result (λ tree. root_room ≡ digest_len tree.now) }
+    ensures digest { IfOk result (λ tree. digest_room ≡ digest_len tree.now) }
+    ensures rule { IfOk result (λ tree. tree.now.rule ≡ PaddedBefore) }
+    ensures fault { IfErr result (λ fault. (size : ℕ)
+        → with_file_end (with_file_memory (fsverity_tree_of params.now) room) size root_room digest_room ≡ Err fault) }
+    ensures tree_fault { IfErr result (λ fault. (build : VerityBuild)
+        → with_tree_end (with_file_memory (fsverity_tree_of params.now) room) build root_room digest_room
+        ≡ Err fault) }
+{
+    let tree = tree_in(made, params, room)?;
+    let digest_len = tree.algorithm().digest_len();
+    if root_room != digest_len {
+        return Err(Fault::Root);
+    }
+    if digest_room != digest_len {
+        return Err(Fault::Length);
+    }
+    Ok(tree)
 }

@@ -8,12 +8,12 @@ ghost use Rattle.verity_c_api.specs.FileTrees.{end_index_in, with_last_block, wi
 ghost use Rattle.verity_c_api.specs.Parameters.{fsverity_tree_of};
 ghost use Rattle.verity_c_api.specs.Statuses.{done, status_of};
 
-use crate::file_building::tree_in;
-use crate::files::{fsverity_file_digest, set_digest};
+use crate::file_building::{tree_at_end, tree_in};
+use crate::files::set_root_and_digest;
 use crate::plans::fsverity_settings_of;
+use verity_builders::{FileFed, FileTreeBuilder};
 use verity_c_api::{DONE, Fault, FsverityParams, VerityBuild, VerityFed};
 use verity_plan::TreeSettings;
-use verity_tree::{FileFed, FileTreeBuilder};
 
 /// Begins to build a file's tree whose hash blocks are handed out: nothing was fed yet. What stood in struct and memory
 /// doesn't count, nor does the size in the parameters, here and in each call below. The memory is as long as
@@ -176,30 +176,19 @@ pub extern "C" fn fsverity_tree_build_end(
         → IsFedTreeTo params.now build.now memory.new bytes }
 {
     let made = fsverity_settings_of(params);
-    let tree = match tree_in(&made, params, memory.len()) {
+    let tree = match tree_at_end(&made, params, memory.len(), root.len(), digest.len()) {
         Ok(tree) => tree,
         Err(fault) => return fault.status(),
     };
-    let digest_len = tree.algorithm().digest_len();
-    if root.len() != digest_len {
-        return Fault::Root.status();
-    }
-    if digest.len() != digest_len {
-        return Fault::Length.status();
-    }
     let builder = FileTreeBuilder {
         settings: *tree,
         fed: build.fed,
         closed: build.closed,
     };
     match builder.end(memory) {
-        Ok(answer) => {
-            set_digest(&answer, root);
-            let file = FsverityParams {
-                size: build.fed,
-                ..*params
-            };
-            fsverity_file_digest(&file, root, digest)
+        Ok(hash) => {
+            set_root_and_digest(tree, build.fed, &hash, root, digest);
+            DONE
         }
         Err(fault) => Fault::of_feed(fault).status(),
     }

@@ -1,5 +1,7 @@
 //! The descriptor and the file digest of fs-verity.
 ghost use Rattle.std.specs.Prelude.{◌≡◌, length};
+ghost use Rattle.verity_format.specs.Descriptors.{IsDescribed, digest_of_file};
+ghost use Rattle.verity_plan.specs.Settings.{digest_len};
 ghost use Rattle.verity_c_api.specs.Answers.{descriptor_bytes_in, descriptor_in, file_digest_in, value_or};
 ghost use Rattle.verity_c_api.specs.Parameters.{fsverity_tree_of};
 ghost use Rattle.verity_c_api.specs.Statuses.{status_of};
@@ -9,6 +11,7 @@ use crate::plans::fsverity_tree_of;
 use verity_c_api::{DONE, Fault, FsverityParams};
 use verity_format::{Descriptor, file_digest, write_descriptor};
 use verity_hash::Digest;
+use verity_plan::TreeSettings;
 
 /// The digest of the file with these parameters and this root hash: the hash of its descriptor (Linux kernel, fs-verity
 /// page, "File digest computation"). The buffer for it is as long as the hash function's digests. An empty file has a root
@@ -35,7 +38,7 @@ pub extern "C" fn fsverity_file_digest(
     if digest.len() != descriptor.algorithm().digest_len() {
         return Fault::Length.status();
     }
-    digest.copy_from_slice(file_digest(&descriptor).as_bytes());
+    set_file_digest(&descriptor, digest);
     DONE
 }
 
@@ -84,12 +87,40 @@ fn descriptor_of(params: &FsverityParams, root: &[u8]) -> Result<Descriptor, Fau
     }
 }
 
+/// Copies the root hash of a file into a buffer, and the file digest that it makes with these settings and this size into
+/// another.
+pub(crate) fn set_root_and_digest(
+    tree: &TreeSettings,
+    size: u64,
+    hash: &Digest,
+    root: &mut [u8],
+    digest: &mut [u8],
+)
+    requires described { IsDescribed tree.now hash.now }
+    requires root { length root.old ≡ digest_len tree.now }
+    requires digest { length digest.old ≡ digest_len tree.now }
+    ensures root { root.new ≡ hash.now }
+    ensures digest { digest.new ≡ digest_of_file (record { tree = tree.now; size = size; root = hash.now }) }
+{
+    set_digest(hash, root);
+    // Such settings and a root hash of their length have a descriptor.
+    if let Some(descriptor) = Descriptor::of(tree, size, hash) {
+        set_file_digest(&descriptor, digest);
+    }
+}
+
+/// Copies the digest of a file into a buffer of its length.
+fn set_file_digest(descriptor: &Descriptor, buffer: &mut [u8])
+    requires { length buffer.old ≡ digest_len descriptor.now.tree }
+    ensures { buffer.new ≡ digest_of_file descriptor.now }
+{
+    set_digest(&file_digest(descriptor), buffer);
+}
+
 /// Copies a digest into a buffer of its length.
 pub(crate) fn set_digest(digest: &Digest, buffer: &mut [u8])
-    ensures { length digest.now ≡ length buffer.old → buffer.new ≡ digest.now }
+    requires { length digest.now ≡ length buffer.old }
+    ensures { buffer.new ≡ digest.now }
 {
-    let bytes = digest.as_bytes();
-    if bytes.len() == buffer.len() {
-        buffer.copy_from_slice(bytes);
-    }
+    buffer.copy_from_slice(digest.as_bytes());
 }

@@ -1,60 +1,26 @@
 //! Joining the parts of a tree by their digests: the hash blocks above them, and the root hash.
 ghost use Rattle.std.specs.Prelude.{◌≡◌, ◌≢◌, ◌≤◌, ℕ, List, length, take, IfOk, Ok};
 ghost use Rattle.verity_plan.specs.PlanCounts.{level_count_of};
-ghost use Rattle.verity_tree.specs.Parts.{counts_none_closed, join_length};
+ghost use Rattle.verity_plan.specs.Settings.{digest_len};
+ghost use Rattle.verity_blocks.specs.Levels.{data_blocks, root};
+ghost use Rattle.verity_builders.specs.Parts.{counts_none_closed};
 ghost use Rattle.verity_c_api.specs.Answers.{value_or};
 ghost use Rattle.verity_c_api.specs.Building.{root_in};
 ghost use Rattle.verity_c_api.specs.Parameters.{fsverity_plan_of, plan_of};
 ghost use Rattle.verity_c_api.specs.Parts.{AreNextDigests, HandsOutOfJoin, IsJoinedTo, StandsLastOfJoin, TakesDigests};
-ghost use Rattle.verity_c_api.specs.Parts.{begun_join, file_digest_of, join_builder_of, join_memory_in};
-ghost use Rattle.verity_c_api.specs.Parts.{last_of_join_in};
+ghost use Rattle.verity_c_api.specs.Parts.{begun_join, file_digest_of, join_builder_of, last_of_join_in};
 ghost use Rattle.verity_c_api.specs.Parts.{with_digests, with_join_memory, with_joined, with_joined_file, with_parts};
 ghost use Rattle.verity_c_api.specs.Statuses.{done, status_of};
 
-use crate::files::{fsverity_file_digest, set_digest};
+use crate::beginning_parts::plan_with_join_memory;
+use crate::files::{set_digest, set_root_and_digest};
 use crate::parts::plan_with_level;
 use crate::plans::{fsverity_plan_of, plan_of};
 use crate::tree_building::fed_of;
+use verity_builders::{Fed, JoinBuilder};
 use verity_c_api::{DONE, Fault, FsverityParams, VerityFed, VerityJoin, VerityParams};
+use verity_hash::Digest;
 use verity_plan::Plan;
-use verity_tree::{Fed, JoinBuilder};
-
-/// The length of the memory that the parts of a level are joined in, in bytes: a hash block for each level from this
-/// one on, and a digest.
-///
-/// The status is 0, or that of the first fault of the parameters, or of `Level`. Then the length stays as it was.
-#[unsafe(no_mangle)]
-pub extern "C" fn verity_join_memory(params: &VerityParams, level: usize, length: &mut usize) -> i32
-    ensures status { result ≡ status_of (join_memory_in (plan_of params.now) level) }
-    ensures length { length.new ≡ value_or length.old (join_memory_in (plan_of params.now) level) }
-{
-    set_join_memory(plan_of(params), level, length)
-}
-
-/// The same of a file's fs-verity tree.
-#[unsafe(no_mangle)]
-pub extern "C" fn fsverity_join_memory(
-    params: &FsverityParams,
-    level: usize,
-    length: &mut usize,
-) -> i32
-    ensures status { result ≡ status_of (join_memory_in (fsverity_plan_of params.now) level) }
-    ensures length { length.new ≡ value_or length.old (join_memory_in (fsverity_plan_of params.now) level) }
-{
-    set_join_memory(fsverity_plan_of(params), level, length)
-}
-
-fn set_join_memory(plan: Result<Plan, Fault>, level: usize, length: &mut usize) -> i32
-    ensures status { result ≡ status_of (join_memory_in plan level) }
-    ensures length { length.new ≡ value_or length.old (join_memory_in plan level) }
-{
-    let plan = match plan_with_level(plan, level) {
-        Ok(plan) => plan,
-        Err(fault) => return fault.status(),
-    };
-    *length = JoinBuilder::memory_length(&plan, level);
-    DONE
-}
 
 /// Begins to join the parts of a level: no digest was taken yet. What stood in struct and memory doesn't count. The
 /// memory is as long as `verity_join_memory` says, here and in each call below.
@@ -105,7 +71,7 @@ fn begin_join(
     ensures begun { result ≡ done → join.new ≡ begun_join level }
     ensures joined { result ≡ done → (bytes : List ℕ) → IsJoinedTo plan join.new memory.new bytes }
 {
-    let plan = match plan_with_memory(plan, level, memory.len()) {
+    let plan = match plan_with_join_memory(plan, level, memory.len()) {
         Ok(plan) => plan,
         Err(fault) => return fault.status(),
     };
@@ -203,7 +169,7 @@ fn feed_join(
         → AreNextDigests plan join.old (take fed.new.taken digests.now) bytes → result ≡ done
         → IfOk plan (λ p. HandsOutOfJoin p join.old join.new bytes memory.new fed.new) }
 {
-    let plan = match plan_with_memory(plan, join.level, memory.len()) {
+    let plan = match plan_with_join_memory(plan, join.level, memory.len()) {
         Ok(plan) => plan,
         Err(fault) => return fault.status(),
     };
@@ -280,15 +246,13 @@ fn set_last_of_join(plan: Result<Plan, Fault>, join: &VerityJoin, fed: &mut Veri
         Ok(plan) => plan,
         Err(fault) => return fault.status(),
     };
-    if join.closed > plan.levels() - join.level || counts_none_closed(&plan, join) {
-        return Fault::Level.status();
-    }
-    if join.taken > plan.count_under(join.level) {
-        return Fault::TooLong.status();
-    }
+    let hash_block = match builder_of(&plan, join).last_block() {
+        Ok(hash_block) => hash_block,
+        Err(fault) => return Fault::of_feed(fault).status(),
+    };
     let answer = Fed {
         taken: 0,
-        hash_block: builder_of(&plan, join).last_block(),
+        hash_block,
     };
     *fed = fed_of(&plan, &answer);
     DONE
@@ -315,19 +279,13 @@ pub extern "C" fn verity_join_end(
     ensures root { (bytes : List ℕ) → IsJoinedTo (plan_of params.now) join.now memory.now bytes → result ≡ done
         → root.new ≡ value_or root.old (root_in (plan_of params.now) bytes) }
 {
-    let plan = match plan_with_memory(plan_of(params), join.level, memory.len()) {
-        Ok(plan) => plan,
-        Err(fault) => return fault.status(),
-    };
-    if root.len() != plan.digest_len() {
-        return Fault::Root.status();
-    }
-    match builder_of(&plan, join).end(memory) {
-        Ok(digest) => {
-            set_digest(&digest, root);
+    // One buffer is enough here, so the other one counts as just as long.
+    match joined(plan_of(params), join, memory, root.len(), root.len()) {
+        Ok((_, hash)) => {
+            set_digest(&hash, root);
             DONE
         }
-        Err(fault) => Fault::of_feed(fault).status(),
+        Err(fault) => fault.status(),
     }
 }
 
@@ -354,36 +312,49 @@ pub extern "C" fn fsverity_join_end(
     ensures digest { (bytes : List ℕ) → IsJoinedTo (fsverity_plan_of params.now) join.now memory.now bytes
         → result ≡ done → digest.new ≡ value_or digest.old (file_digest_of (fsverity_plan_of params.now) bytes) }
 {
-    let plan = match plan_with_memory(fsverity_plan_of(params), join.level, memory.len()) {
-        Ok(plan) => plan,
-        Err(fault) => return fault.status(),
-    };
-    if root.len() != plan.digest_len() {
-        return Fault::Root.status();
-    }
-    if digest.len() != plan.digest_len() {
-        return Fault::Length.status();
-    }
-    match builder_of(&plan, join).end(memory) {
-        Ok(answer) => {
-            set_digest(&answer, root);
-            fsverity_file_digest(params, root, digest)
+    match joined(
+        fsverity_plan_of(params),
+        join,
+        memory,
+        root.len(),
+        digest.len(),
+    ) {
+        Ok((plan, hash)) => {
+            set_root_and_digest(plan.settings(), plan.wanted(), &hash, root, digest);
+            DONE
         }
-        Err(fault) => Fault::of_feed(fault).status(),
+        Err(fault) => fault.status(),
     }
 }
 
-/// The plan, if it has this level or one level fewer, and the memory is as long as the builder of a join wants; or the
-/// first fault: that of the plan, `Level`, `Length`.
-fn plan_with_memory(plan: Result<Plan, Fault>, level: usize, room: usize) -> Result<Plan, Fault>
-    ensures value { result ≡ with_join_memory plan level room }
-    ensures planned { IfOk result (λ p. plan ≡ Ok p) }
-    ensures level { IfOk result (λ p. level ≤ level_count_of p) }
-    ensures memory { IfOk result (λ p. room ≡ join_length p level) }
+/// The plan and the root hash of a join, if there is room for just that and a file digest; or the first fault: that of
+/// the plan, `Level`, `Length` (the memory's), `Root`, `Length` (the file digest's), or of the join.
+fn joined(
+    plan: Result<Plan, Fault>,
+    join: &VerityJoin,
+    memory: &[u8],
+    root_room: usize,
+    digest_room: usize,
+) -> Result<(Plan, Digest), Fault>
+    ensures status { status_of result ≡ status_of (with_joined_file
+        (with_join_memory plan join.now.level (length memory.now)) join.now root_room digest_room) }
+    ensures planned { IfOk result (λ joined. plan ≡ Ok joined.0) }
+    ensures room { IfOk result (λ joined. root_room ≡ digest_len joined.0.settings) }
+    ensures digest { IfOk result (λ joined. digest_room ≡ digest_len joined.0.settings) }
+    ensures size { IfOk result (λ joined. length joined.1 ≡ digest_len joined.0.settings) }
+    ensures root { (bytes : List ℕ) → IsJoinedTo plan join.now memory.now bytes
+        → IfOk result (λ joined. joined.1 ≡ root joined.0.settings (data_blocks joined.0 bytes)) }
 {
-    match plan_with_level(plan, level) {
-        Ok(plan) if room != JoinBuilder::memory_length(&plan, level) => Err(Fault::Length),
-        other => other,
+    let plan = plan_with_join_memory(plan, join.level, memory.len())?;
+    if root_room != plan.digest_len() {
+        return Err(Fault::Root);
+    }
+    if digest_room != plan.digest_len() {
+        return Err(Fault::Length);
+    }
+    match builder_of(&plan, join).end(memory) {
+        Ok(hash) => Ok((plan, hash)),
+        Err(fault) => Err(Fault::of_feed(fault)),
     }
 }
 
@@ -397,12 +368,4 @@ fn builder_of(plan: &Plan, join: &VerityJoin) -> JoinBuilder
         taken: join.taken,
         closed: join.closed,
     }
-}
-
-/// Whether all digests were taken and no level is counted as handed out, though there is one: no call leaves that.
-fn counts_none_closed(plan: &Plan, join: &VerityJoin) -> bool
-    requires { join.now.level ≤ level_count_of plan.now }
-    ensures { result ≡ counts_none_closed (join_builder_of plan.now join.now) }
-{
-    join.taken == plan.count_under(join.level) && join.closed == 0 && join.level < plan.levels()
 }

@@ -6,6 +6,7 @@
 #![tactic(auto)]
 
 mod algorithms;
+mod beginning_parts;
 mod blocks;
 mod defaults;
 mod file_building;
@@ -27,6 +28,10 @@ pub use algorithms::{
     fsverity_formatted_digest, verity_algorithm_by_name, verity_algorithm_name,
     verity_digest_length,
 };
+pub use beginning_parts::{
+    fsverity_join_memory, fsverity_part_begin, fsverity_part_count, fsverity_part_memory,
+    verity_join_memory, verity_part_begin, verity_part_count, verity_part_memory,
+};
 pub use blocks::{fsverity_check_block, verity_check_block};
 pub use defaults::verity_default_params;
 pub use file_building::{
@@ -39,8 +44,7 @@ pub use file_tree_building::{
 pub use files::{fsverity_descriptor, fsverity_file_digest};
 pub use joins::{
     fsverity_join_begin, fsverity_join_end, fsverity_join_feed, fsverity_join_last_block,
-    fsverity_join_memory, verity_join_begin, verity_join_end, verity_join_feed,
-    verity_join_last_block, verity_join_memory,
+    verity_join_begin, verity_join_end, verity_join_feed, verity_join_last_block,
 };
 pub use levels::{
     fsverity_hash_block_start, fsverity_level_count, fsverity_level_start, verity_hash_block_start,
@@ -48,9 +52,8 @@ pub use levels::{
 };
 pub use links::{fsverity_check_link, fsverity_check_top, verity_check_link, verity_check_top};
 pub use parts::{
-    fsverity_part_begin, fsverity_part_count, fsverity_part_end, fsverity_part_feed,
-    fsverity_part_last_block, fsverity_part_memory, verity_part_begin, verity_part_count,
-    verity_part_end, verity_part_feed, verity_part_last_block, verity_part_memory,
+    fsverity_part_end, fsverity_part_feed, fsverity_part_last_block, verity_part_end,
+    verity_part_feed, verity_part_last_block,
 };
 pub use same::verity_same_params;
 pub use sizes::{fsverity_tree_size, verity_hash_area_end};

@@ -6,8 +6,8 @@ ghost use Rattle.verity_c_api.specs.Parameters.{fsverity_plan_of, plan_of};
 use crate::blocks::root_from_bytes;
 use crate::plans::{fsverity_plan_of, plan_of};
 use verity_c_api::{Fault, FsverityParams, VerityParams, link_status};
+use verity_pass::{check_link, check_top};
 use verity_plan::Plan;
-use verity_tree::{check_link, check_top};
 
 /// Checks one block by a hash block of a level that is trusted already. Both are above data block `index`, counted from
 /// 0: for level 0 `block` is that data block, and for a higher level the hash block one level down.

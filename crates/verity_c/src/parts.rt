@@ -1,179 +1,22 @@
 //! Building a part of a tree as pieces of its data come, apart from the other parts, by as many threads, processes or
 //! machines as a caller has.
-ghost use Rattle.std.specs.Prelude.{◌≡◌, ◌≢◌, ◌≤◌, ℕ, List, [], ◌++◌, length, take, IfOk, Ok};
+ghost use Rattle.std.specs.Prelude.{◌≡◌, ◌≢◌, ◌≤◌, ℕ, List, ◌++◌, length, take, IfOk, Ok};
 ghost use Rattle.verity_plan.specs.PlanCounts.{level_count_of};
-ghost use Rattle.verity_tree.specs.Feeding.{feeding_length};
-ghost use Rattle.verity_tree.specs.Parts.{HasPart, piece_fault, plan_of_part};
+ghost use Rattle.verity_builders.specs.Parts.{HasPart, piece_fault, plan_of_part};
 ghost use Rattle.verity_c_api.specs.Answers.{value_or};
 ghost use Rattle.verity_c_api.specs.Parameters.{fsverity_plan_of, plan_of};
 ghost use Rattle.verity_c_api.specs.Parts.{HandsOutOfPart, IsDigestOfFed, IsFedPartTo, StandsLastOfPart};
-ghost use Rattle.verity_c_api.specs.Parts.{TakesPartPiece, begun_part, last_of_part_in, part_builder_of, part_count_in};
-ghost use Rattle.verity_c_api.specs.Parts.{part_memory_in, part_blocks_in, with_part, with_part_fed, with_part_memory};
-ghost use Rattle.verity_c_api.specs.Parts.{with_part_piece, with_parts};
+ghost use Rattle.verity_c_api.specs.Parts.{TakesPartPiece, last_of_part_in, part_builder_of, with_part};
+ghost use Rattle.verity_c_api.specs.Parts.{with_part_fed, with_part_memory, with_part_piece, with_parts};
 ghost use Rattle.verity_c_api.specs.Statuses.{done, status_of};
 
+use crate::beginning_parts::plan_with_part_memory;
 use crate::files::set_digest;
 use crate::plans::{fsverity_plan_of, plan_of};
 use crate::tree_building::fed_of;
+use verity_builders::{Fed, FeedFault, PartBuilder};
 use verity_c_api::{DONE, Fault, FsverityParams, VerityFed, VerityParams, VerityPart};
 use verity_plan::Plan;
-use verity_tree::{Fed, FeedFault, PartBuilder};
-
-/// How many parts a level has, and how many data blocks each but the last one, which has what is left, down to a single
-/// one. The part of a level is what stands below one of the digests that the level's hash blocks are made of (Linux
-/// kernel, dm-verity page, "Hash Tree"): level 0 has a part for each data block. The level above the top has one part,
-/// the whole tree; its number is that of `verity_level_count`.
-///
-/// The status is 0, or that of the first fault of the parameters, or of `Level`. Then both numbers stay as they were.
-#[unsafe(no_mangle)]
-pub extern "C" fn verity_part_count(
-    params: &VerityParams,
-    level: usize,
-    parts: &mut u64,
-    blocks: &mut u64,
-) -> i32
-    ensures status { result ≡ status_of (part_count_in (plan_of params.now) level) }
-    ensures parts { parts.new ≡ value_or parts.old (part_count_in (plan_of params.now) level) }
-    ensures blocks { blocks.new ≡ value_or blocks.old (part_blocks_in (plan_of params.now) level) }
-{
-    set_part_count(plan_of(params), level, parts, blocks)
-}
-
-/// The same of a file's fs-verity tree.
-#[unsafe(no_mangle)]
-pub extern "C" fn fsverity_part_count(
-    params: &FsverityParams,
-    level: usize,
-    parts: &mut u64,
-    blocks: &mut u64,
-) -> i32
-    ensures status { result ≡ status_of (part_count_in (fsverity_plan_of params.now) level) }
-    ensures parts { parts.new ≡ value_or parts.old (part_count_in (fsverity_plan_of params.now) level) }
-    ensures blocks { blocks.new ≡ value_or blocks.old (part_blocks_in (fsverity_plan_of params.now) level) }
-{
-    set_part_count(fsverity_plan_of(params), level, parts, blocks)
-}
-
-fn set_part_count(plan: Result<Plan, Fault>, level: usize, parts: &mut u64, blocks: &mut u64) -> i32
-    ensures status { result ≡ status_of (part_count_in plan level) }
-    ensures parts { parts.new ≡ value_or parts.old (part_count_in plan level) }
-    ensures blocks { blocks.new ≡ value_or blocks.old (part_blocks_in plan level) }
-{
-    let plan = match plan_with_level(plan, level) {
-        Ok(plan) => plan,
-        Err(fault) => return fault.status(),
-    };
-    *parts = plan.count_under(level);
-    *blocks = PartBuilder::blocks(&plan, level);
-    DONE
-}
-
-/// The length of the memory that a part of a level is built in, in bytes: a hash block for each level below, and a
-/// window of up to eight data blocks.
-///
-/// The status is 0, or that of the first fault of the parameters, or of `Level`. Then the length stays as it was.
-#[unsafe(no_mangle)]
-pub extern "C" fn verity_part_memory(params: &VerityParams, level: usize, length: &mut usize) -> i32
-    ensures status { result ≡ status_of (part_memory_in (plan_of params.now) level) }
-    ensures length { length.new ≡ value_or length.old (part_memory_in (plan_of params.now) level) }
-{
-    set_part_memory(plan_of(params), level, length)
-}
-
-/// The same of a file's fs-verity tree.
-#[unsafe(no_mangle)]
-pub extern "C" fn fsverity_part_memory(
-    params: &FsverityParams,
-    level: usize,
-    length: &mut usize,
-) -> i32
-    ensures status { result ≡ status_of (part_memory_in (fsverity_plan_of params.now) level) }
-    ensures length { length.new ≡ value_or length.old (part_memory_in (fsverity_plan_of params.now) level) }
-{
-    set_part_memory(fsverity_plan_of(params), level, length)
-}
-
-fn set_part_memory(plan: Result<Plan, Fault>, level: usize, length: &mut usize) -> i32
-    ensures status { result ≡ status_of (part_memory_in plan level) }
-    ensures length { length.new ≡ value_or length.old (part_memory_in plan level) }
-{
-    let plan = match plan_with_level(plan, level) {
-        Ok(plan) => plan,
-        Err(fault) => return fault.status(),
-    };
-    *length = PartBuilder::memory_length(&plan, level);
-    DONE
-}
-
-/// Begins a part of a level, by its number, counted from 0: nothing was fed yet. What stood in struct and memory
-/// doesn't count. The memory is as long as `verity_part_memory` says, here and in each call below.
-///
-/// The status is 0, or that of the first fault of the parameters, or of `Level`, `Part`, `Length`. Then struct and
-/// memory stay as they were.
-#[unsafe(no_mangle)]
-pub extern "C" fn verity_part_begin(
-    params: &VerityParams,
-    level: usize,
-    number: u64,
-    part: &mut VerityPart,
-    memory: &mut [u8],
-) -> i32
-    ensures status { result ≡ status_of (with_part_memory (plan_of params.now) level number (length memory.old)) }
-    ensures refused { result ≢ done → (part.new ≡ part.old) × (memory.new ≡ memory.old) }
-    ensures begun { result ≡ done → part.new ≡ begun_part level number }
-    ensures fed { result ≡ done → IsFedPartTo (plan_of params.now) part.new memory.new [] }
-{
-    begin_part(plan_of(params), level, number, part, memory)
-}
-
-/// The same of a file's fs-verity tree, whose size is known.
-#[unsafe(no_mangle)]
-pub extern "C" fn fsverity_part_begin(
-    params: &FsverityParams,
-    level: usize,
-    number: u64,
-    part: &mut VerityPart,
-    memory: &mut [u8],
-) -> i32
-    ensures status { result
-        ≡ status_of (with_part_memory (fsverity_plan_of params.now) level number (length memory.old)) }
-    ensures refused { result ≢ done → (part.new ≡ part.old) × (memory.new ≡ memory.old) }
-    ensures begun { result ≡ done → part.new ≡ begun_part level number }
-    ensures fed { result ≡ done → IsFedPartTo (fsverity_plan_of params.now) part.new memory.new [] }
-{
-    begin_part(fsverity_plan_of(params), level, number, part, memory)
-}
-
-fn begin_part(
-    plan: Result<Plan, Fault>,
-    level: usize,
-    number: u64,
-    part: &mut VerityPart,
-    memory: &mut [u8],
-) -> i32
-    ensures status { result ≡ status_of (with_part_memory plan level number (length memory.old)) }
-    ensures refused { result ≢ done → (part.new ≡ part.old) × (memory.new ≡ memory.old) }
-    ensures begun { result ≡ done → part.new ≡ begun_part level number }
-    ensures fed { result ≡ done → IsFedPartTo plan part.new memory.new [] }
-{
-    let plan = match plan_with_memory(plan, level, number, memory.len()) {
-        Ok(plan) => plan,
-        Err(fault) => return fault.status(),
-    };
-    match PartBuilder::begin(&plan, level, number, memory) {
-        Ok(builder) => {
-            *part = VerityPart {
-                level: builder.level,
-                part: builder.part,
-                fed: builder.fed,
-                closed: builder.closed,
-            };
-            DONE
-        }
-        // The plan has the part, so this is never answered.
-        Err(_) => Fault::Part.status(),
-    }
-}
 
 /// Feeds the next piece of the part's data, of any length: all of it, or its bytes up to those with which a hash
 /// block closes, which is handed out with its number and its place in the whole tree (Linux kernel, dm-verity page,
@@ -255,7 +98,7 @@ fn feed_part(
         → IfOk plan
         (λ p. HandsOutOfPart p part.old part.new (bytes ++ take fed.new.taken piece.now) memory.new fed.new) }
 {
-    let plan = match plan_with_memory(plan, part.level, part.part, memory.len()) {
+    let plan = match plan_with_part_memory(plan, part.level, part.part, memory.len()) {
         Ok(plan) => plan,
         Err(fault) => return fault.status(),
     };
@@ -327,12 +170,13 @@ fn set_last_of_part(plan: Result<Plan, Fault>, part: &VerityPart, fed: &mut Veri
         Ok(plan) => plan,
         Err(fault) => return fault.status(),
     };
-    if let Some(fault) = fault_so_far(&plan, part) {
-        return Fault::of_feed(fault).status();
-    }
+    let hash_block = match builder_of(&plan, part).last_block() {
+        Ok(hash_block) => hash_block,
+        Err(fault) => return Fault::of_feed(fault).status(),
+    };
     let answer = Fed {
         taken: 0,
-        hash_block: builder_of(&plan, part).last_block(),
+        hash_block,
     };
     *fed = fed_of(&plan, &answer);
     DONE
@@ -399,7 +243,7 @@ fn set_part_digest(
     ensures stays { (bytes : List ℕ) → IsFedPartTo plan part.now memory.old bytes
         → IsFedPartTo plan part.now memory.new bytes }
 {
-    let plan = match plan_with_memory(plan, part.level, part.part, memory.len()) {
+    let plan = match plan_with_part_memory(plan, part.level, part.part, memory.len()) {
         Ok(plan) => plan,
         Err(fault) => return fault.status(),
     };
@@ -428,32 +272,17 @@ pub(crate) fn plan_with_level(plan: Result<Plan, Fault>, level: usize) -> Result
 }
 
 /// The plan, if the level has this part; or the first fault: that of the plan, `Level`, `Part`.
-fn plan_with_part(plan: Result<Plan, Fault>, level: usize, part: u64) -> Result<Plan, Fault>
+pub(crate) fn plan_with_part(
+    plan: Result<Plan, Fault>,
+    level: usize,
+    part: u64,
+) -> Result<Plan, Fault>
     ensures value { result ≡ with_part plan level part }
     ensures planned { IfOk result (λ p. plan ≡ Ok p) }
     ensures part { IfOk result (λ p. HasPart p level part) }
 {
     match plan_with_level(plan, level) {
         Ok(plan) if part >= plan.count_under(level) => Err(Fault::Part),
-        other => other,
-    }
-}
-
-/// The plan, if the level has this part, and the memory is as long as its builder wants; or the first fault: that of
-/// the plan, `Level`, `Part`, `Length`.
-fn plan_with_memory(
-    plan: Result<Plan, Fault>,
-    level: usize,
-    part: u64,
-    room: usize,
-) -> Result<Plan, Fault>
-    ensures value { result ≡ with_part_memory plan level part room }
-    ensures planned { IfOk result (λ p. plan ≡ Ok p) }
-    ensures part { IfOk result (λ p. HasPart p level part) }
-    ensures memory { IfOk result (λ p. room ≡ feeding_length p.settings level) }
-{
-    match plan_with_part(plan, level, part) {
-        Ok(plan) if room != PartBuilder::memory_length(&plan, level) => Err(Fault::Length),
         other => other,
     }
 }
@@ -468,41 +297,5 @@ fn builder_of(plan: &Plan, part: &VerityPart) -> PartBuilder
         part: part.part,
         fed: part.fed,
         closed: part.closed,
-    }
-}
-
-/// What is wrong with the numbers of a struct: more levels are counted as handed out than the part has, or more bytes
-/// as fed.
-fn fault_so_far(plan: &Plan, part: &VerityPart) -> Option<FeedFault>
-    requires { HasPart plan.now part.now.level part.now.part }
-    ensures { result ≡ piece_fault (part_builder_of plan.now part.now) 0 }
-{
-    let own = own_plan(plan, part.level, part.part);
-    let most = if part.fed < own.wanted() {
-        own.levels()
-    } else {
-        part.level
-    };
-    if part.closed > most {
-        Some(FeedFault::Level)
-    } else if part.fed > own.wanted() {
-        Some(FeedFault::TooLong)
-    } else {
-        None
-    }
-}
-
-/// The plan of the tree above a part's data alone.
-fn own_plan(plan: &Plan, level: usize, part: u64) -> Plan
-    requires { HasPart plan.now level part }
-    ensures { result ≡ plan_of_part plan.now level part }
-{
-    let count = PartBuilder::blocks(plan, level);
-    let block = plan.data_block() as u64;
-    let wanted = (plan.wanted() - part * count * block).min(count * block);
-    match Plan::for_bytes(plan.settings(), wanted, 0) {
-        Ok(own) => own,
-        // The whole tree has room, so this is never answered.
-        Err(_) => *plan,
     }
 }

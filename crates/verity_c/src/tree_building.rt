@@ -9,9 +9,9 @@ ghost use Rattle.verity_c_api.specs.Statuses.{done, status_of};
 
 use crate::files::set_digest;
 use crate::plans::plan_of;
+use verity_builders::{Fed, TreeBuilder};
 use verity_c_api::{DONE, Fault, VerityBuild, VerityFed, VerityParams};
 use verity_plan::Plan;
-use verity_tree::{Fed, TreeBuilder};
 
 /// The length of the memory that a tree is built in, in bytes: a hash block for each level (Linux kernel, dm-verity
 /// page, "Hash Tree"), and a window of up to eight data blocks.
@@ -137,15 +137,13 @@ pub extern "C" fn verity_build_last_block(
         fed: build.fed,
         closed: build.closed,
     };
-    if builder.closed > plan.levels() {
-        return Fault::Level.status();
-    }
-    if builder.fed > plan.wanted() {
-        return Fault::TooLong.status();
-    }
+    let hash_block = match builder.last_block() {
+        Ok(hash_block) => hash_block,
+        Err(fault) => return Fault::of_feed(fault).status(),
+    };
     let answer = Fed {
         taken: 0,
-        hash_block: builder.last_block(),
+        hash_block,
     };
     *fed = fed_of(&plan, &answer);
     DONE

@@ -1,24 +1,20 @@
 -- What a builder has answered is what the library for C says of it.
-use Rattle.std.proofs.Common.{◌≡◌, ◌≢◌, ◌<◌, ◌≤◌, ◌+◌, ℕ, Bool, true, false, List, [], ◌∷◌, ◌++◌, length}
+use Rattle.std.proofs.Common.{◌≡◌, ◌≢◌, ◌<◌, ◌≤◌, ◌+◌, ℕ, Bool, true, false, List, [], ◌∷◌, ◌++◌}
 use Rattle.std.proofs.Common.{take, Option, Some, None, Result, Ok, IfOk, if◌then◌else◌, arith, ap, inl, inr, refl}
 use Rattle.std.proofs.Common.{subst, sym, ◌∙◌}
 use Rattle.std.proofs.lemmas.Bool.Decides.{nat_tests}
 use Rattle.std.specs.Prelude.{◌==◌, MatchOption}
-use Rattle.verity_format.specs.Descriptors.{digest_of_file}
 use Rattle.verity_plan.specs.Plans.{PlanFields}
 use Rattle.verity_plan.specs.PlanCounts.{level_count_of}
 use Rattle.verity_plan.proofs.CountLemmas.{mul_le}
-use Rattle.verity_plan.specs.Settings.{TreeSettingsFields, digest_len}
-use Rattle.verity_tree.proofs.RootLemmas.{length-root_of_file}
-use Rattle.verity_tree.specs.ClosingOrder.{block_index}
-use Rattle.verity_tree.specs.Feeding.{Feeds, IsFed, IsFedFile, IsHandedOut, Takes, given}
-use Rattle.verity_tree.specs.Levels.{root_of_file}
-use Rattle.verity_tree.specs.declared.file_builder.FileBuilder.{FileBuilder}
-use Rattle.verity_tree.specs.declared.tree_builder.Fed.{Fed}
-use Rattle.verity_tree.specs.declared.tree_builder.HashBlock.{HashBlock}
-use Rattle.verity_tree.specs.declared.tree_builder.TreeBuilder.{TreeBuilder}
+use Rattle.verity_plan.specs.Settings.{TreeSettingsFields}
+use Rattle.verity_blocks.specs.ClosingOrder.{block_index}
+use Rattle.verity_builders.specs.Feeding.{Feeds, IsFed, IsFedFile, IsHandedOut, Takes, given}
+use Rattle.verity_builders.specs.declared.file_builder.FileBuilder.{FileBuilder}
+use Rattle.verity_builders.specs.declared.tree_builder.Fed.{Fed}
+use Rattle.verity_blocks.specs.declared.hash_block.HashBlock.{HashBlock}
+use Rattle.verity_builders.specs.declared.tree_builder.TreeBuilder.{TreeBuilder}
 use Rattle.verity_c_api.proofs.ParameterLemmas.{one_value, tree_of_sized}
-use Rattle.verity_c_api.specs.Answers.{file_digest_in}
 use Rattle.verity_c_api.specs.Building.{HandsOut, IsFedFileTo, IsFedTo, StandsLast, TakesPiece, block_of, builder_of}
 use Rattle.verity_c_api.specs.Building.{fed_by, fed_of, file_builder_of, given_by}
 use Rattle.verity_c_api.specs.BuildingLoop.{hash_block_by}
@@ -154,10 +150,7 @@ pub TakesPiece-at : (params : VerityParams) (p : PlanFields) (before : VerityBui
     → Takes (builder_of p before) after count answer
     → IfOk (plan_of params) (λ q. TakesPiece q before (record { fed = after.fed; closed = after.closed }) count fed)
 TakesPiece-at params p before after count answer fed made is some h =
-    let last : VerityBuild = record { fed = after.fed; closed = after.closed } in
-    subst (λ (r : Result PlanFields Fault). IfOk r (λ q. TakesPiece q before last count fed)) (sym made)
-    (subst (λ (f : VerityFed). TakesPiece p before last count f) (sym is)
-    (TakesPiece-by p before after count answer.taken answer.hash_block some h))
+    rw (made, is) (TakesPiece-by p before after count answer.taken answer.hash_block some h)
 
 pub HandsOut-at : (params : VerityParams) (p : PlanFields) (before : VerityBuild) (after : TreeBuilder)
     (bytes piece memory : List ℕ) (answer : Fed) (fed : VerityFed) → plan_of params ≡ Ok p → fed ≡ fed_of p answer
@@ -169,14 +162,9 @@ pub HandsOut-at : (params : VerityParams) (p : PlanFields) (before : VerityBuild
 HandsOut-at params p before after bytes piece memory answer fed made is some h =
     let last : VerityBuild = record { fed = after.fed; closed = after.closed } in
     let numbers : VerityFed = fed_of p answer in
-    let here : HandsOut p before last (bytes ++ take answer.taken piece) memory numbers =
-    HandsOut-by p before after bytes (take answer.taken piece) memory answer.taken answer.hash_block some h in
-    let taken : numbers.taken ≡ answer.taken = taken_is p answer numbers refl in
-    let there : HandsOut p before last (bytes ++ take numbers.taken piece) memory numbers =
-    subst (λ (n : ℕ). HandsOut p before last (bytes ++ take n piece) memory numbers) (sym taken) here in
-    let all : List ℕ = bytes ++ take fed.taken piece in
-    subst (λ (r : Result PlanFields Fault). IfOk r (λ q. HandsOut q before last all memory fed)) (sym made)
-    (subst (λ (f : VerityFed). HandsOut p before last (bytes ++ take f.taken piece) memory f) (sym is) there)
+    rw (made, is) (subst (λ (n : ℕ). HandsOut p before last (bytes ++ take n piece) memory numbers)
+    (sym (taken_is p answer numbers refl))
+    (HandsOut-by p before after bytes (take answer.taken piece) memory answer.taken answer.hash_block some h))
 
 -- the hash block that was handed out last, in the numbers of the struct
 StandsLast-by : (p : PlanFields) (build : VerityBuild) (bytes memory : List ℕ) (last : Option HashBlock)
@@ -200,29 +188,3 @@ StandsLast-at params p build bytes memory last fed made is some h =
     subst (λ (r : Result PlanFields Fault). IfOk r (λ q. StandsLast q build bytes memory fed)) (sym made)
     (subst (λ (f : VerityFed). StandsLast p build bytes memory f) (sym is)
     (StandsLast-by p build bytes memory last some h))
-
--- a file digest, when there is room for just it
-pub file_digest_in-ok : (made : Result TreeSettingsFields Fault) (s : TreeSettingsFields) (size : ℕ) (hash : List ℕ)
-    (room : ℕ)
-    → made ≡ Ok s → length hash ≡ digest_len s → room ≡ digest_len s
-    → file_digest_in made size hash room ≡ Ok (digest_of_file (record { tree = s; size = size; root = hash }))
-file_digest_in-ok made s size hash room is long fits =
-    let is_long : (length hash == digest_len s) ≡ true = grind (arith, nat_tests, long) in
-    let is_room : (room == digest_len s) ≡ true = grind (arith, nat_tests, fits) in
-    rw (is, is_long, is_room) refl
-
--- the root hash of a file's bytes, when there is room for just it
-pub file_root-set : (params : FsverityParams) (s : TreeSettingsFields) (memory fed answer before after : List ℕ)
-    → fsverity_tree_of params ≡ Ok s → IsFedFileTo params memory fed
-    → ((bytes : List ℕ) → IsFedFile (file_builder_of s params.size) memory bytes
-    → answer ≡ root_of_file s (length bytes) bytes)
-    → length before ≡ digest_len s → (length answer ≡ length before → after ≡ answer)
-    → after ≡ root_of_file s (length fed) fed
-file_root-set params s memory fed answer before after made h answers room copied =
-    let is : answer ≡ root_of_file s (length fed) fed = answers fed (IsFedFileTo-at params s memory fed made h) in
-    copied (ap length is ∙ length-root_of_file s (length fed) fed ∙ sym room) ∙ is
-
--- and its size
-pub file_size : (params : FsverityParams) (memory fed : List ℕ) → IsFedFileTo params memory fed
-    → params.size ≡ length fed
-file_size params memory fed h = sym h.is_fed.count

@@ -10,12 +10,12 @@ use Rattle.std.specs.Prelude.{◌==◌, nat_lt}
 use Rattle.verity_plan.specs.Plans.{PlanFields}
 use Rattle.verity_plan.specs.PlanCounts.{level_count_of}
 use Rattle.verity_plan.specs.Settings.{digest_len}
-use Rattle.verity_tree.proofs.HandedOutLemmas.{calls-build}
-use Rattle.verity_tree.proofs.StandingLemmas.{put-holds}
-use Rattle.verity_tree.specs.ClosingOrder.{BlockIndex, handed_out}
-use Rattle.verity_tree.specs.Feeding.{BuildsInCalls, FeedCall, Feeds, FeedsCalls, IsFed, IsHandedOut}
-use Rattle.verity_tree.specs.Levels.{data_blocks, root}
-use Rattle.verity_tree.specs.TreeOnDevice.{HoldsTree}
+use Rattle.verity_builders.proofs.TreeCalls.{calls-build}
+use Rattle.verity_pass.proofs.PutTree.{put-holds}
+use Rattle.verity_blocks.specs.ClosingOrder.{BlockIndex, handed_out}
+use Rattle.verity_builders.specs.Feeding.{BuildsInCalls, FeedCall, Feeds, FeedsCalls, IsFed, IsHandedOut}
+use Rattle.verity_blocks.specs.Levels.{data_blocks, root}
+use Rattle.verity_blocks.specs.TreeOnDevice.{HoldsTree}
 use Rattle.verity_c_api.proofs.BuildingLemmas.{IsFedTo-at, given-by, handed-by}
 use Rattle.verity_c_api.proofs.ParameterLemmas.{of_plan, plan-made}
 use Rattle.verity_c_api.proofs.StatusLemmas.{room-of}

@@ -11,15 +11,15 @@ use Rattle.verity_plan.specs.Plans.{PlanFields}
 use Rattle.verity_plan.specs.PlanCounts.{level_count_of, count_under}
 use Rattle.verity_plan.specs.Settings.{digest_len}
 use Rattle.verity_plan.proofs.FanLemmas.{digest_len_of-pos}
-use Rattle.verity_tree.proofs.OpenBlockLemmas.{length-hash}
-use Rattle.verity_tree.proofs.PartCalls.{run-digests}
-use Rattle.verity_tree.proofs.JoinedLists.{length-pieces}
-use Rattle.verity_tree.specs.ClosingOrder.{BlockIndex}
-use Rattle.verity_tree.specs.Feeding.{FeedCall}
-use Rattle.verity_tree.specs.Levels.{data_blocks, root}
-use Rattle.verity_tree.specs.Parts.{AreDigests, BuildsJoinInCalls, PartInCalls, IsHandedOutOfJoin, IsJoined, Joins}
-use Rattle.verity_tree.specs.Parts.{JoinsCalls, blocks_under, counts_none_closed, digest_of_part, handed_out_of_join}
-use Rattle.verity_tree.specs.Parts.{join_length}
+use Rattle.verity_blocks.proofs.OpenBlocks.OpenBlock.{length-hash}
+use Rattle.verity_builders.proofs.PartCalls.{run-digests}
+use Rattle.verity_blocks.proofs.JoinedLists.{length-pieces}
+use Rattle.verity_blocks.specs.ClosingOrder.{BlockIndex}
+use Rattle.verity_builders.specs.Feeding.{FeedCall}
+use Rattle.verity_blocks.specs.Levels.{data_blocks, root}
+use Rattle.verity_builders.specs.Parts.{AreDigests, BuildsJoinInCalls, PartInCalls, IsHandedOutOfJoin, IsJoined, Joins}
+use Rattle.verity_builders.specs.Parts.{JoinsCalls, blocks_under, counts_none_closed, digest_of_part, handed_out_of_join}
+use Rattle.verity_builders.specs.Parts.{join_length}
 use Rattle.verity_c_api.proofs.BuildingLemmas.{given-by, handed-by}
 use Rattle.verity_c_api.proofs.StatusLemmas.{fault-not_done, room-of}
 use Rattle.verity_c_api.specs.BuildingLoop.{hash_block_by}

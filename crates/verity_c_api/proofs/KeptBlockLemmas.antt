@@ -4,13 +4,13 @@ use Rattle.std.proofs.Common.{inl, inr, refl, subst, sym}
 use Rattle.std.specs.Prelude.{◌==◌}
 use Rattle.verity_plan.specs.Plans.{IsPlan, PlanFields}
 use Rattle.verity_plan.specs.Settings.{digest_len}
-use Rattle.verity_tree.proofs.KeptBlocks.{kept-true}
-use Rattle.verity_tree.specs.Levels.{data_blocks, root}
-use Rattle.verity_tree.specs.KeptBlocks.{AreAccepted, AreTrueOrCollide, CheckedBlock, IsAcceptedAsTop}
-use Rattle.verity_tree.specs.KeptBlocks.{IsAcceptedUnder}
-use Rattle.verity_tree.specs.Links.{checked_link, checked_top}
-use Rattle.verity_tree.specs.declared.link.LinkFault.{LinkFault}
-use Rattle.verity_tree.specs.declared.link.LinkFault.TheVariants as of_link
+use Rattle.verity_pass.proofs.KeptBlocks.{kept-true}
+use Rattle.verity_blocks.specs.Levels.{data_blocks, root}
+use Rattle.verity_pass.specs.KeptBlocks.{AreAccepted, AreTrueOrCollide, CheckedBlock, IsAcceptedAsTop}
+use Rattle.verity_pass.specs.KeptBlocks.{IsAcceptedUnder}
+use Rattle.verity_pass.specs.Links.{checked_link, checked_top}
+use Rattle.verity_pass.specs.declared.link.LinkFault.{LinkFault}
+use Rattle.verity_pass.specs.declared.link.LinkFault.TheVariants as of_link
 use Rattle.verity_c_api.proofs.ParameterLemmas.{file_plan-made, plan-made}
 use Rattle.verity_c_api.proofs.StatusLemmas.{fault-not_done}
 use Rattle.verity_c_api.specs.Answers.{top_status_in}

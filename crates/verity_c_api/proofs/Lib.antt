@@ -1,15 +1,15 @@
 pub mod BuildingLemmas
-pub mod BuildingLoopLemmas
-pub mod JoinCallLemmas
-pub mod KeptBlockLemmas
-pub mod LongestPaths
-pub mod LoopEndLemmas
+mod BuildingLoopLemmas
+mod JoinCallLemmas
+mod KeptBlockLemmas
+mod LongestPaths
+mod LoopEndLemmas
 pub mod ParameterLemmas
-pub mod PartCallLemmas
-pub mod PartsLoopLemmas
-pub mod PathLengthLemmas
-pub mod ReadBackLemmas
+mod PartCallLemmas
+mod PartsLoopLemmas
+mod PathLengthLemmas
+mod ReadBackLemmas
 pub mod ReadLemmas
 pub mod StatusLemmas
 pub mod SuperblockLemmas
-pub mod TrustedBlockLemmas
+mod TrustedBlockLemmas

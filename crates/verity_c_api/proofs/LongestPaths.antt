@@ -10,7 +10,7 @@ use Rattle.verity_hash.specs.declared.salting.SaltRule.TheVariants.{Before, Padd
 use Rattle.verity_plan.specs.Plans.{PlanFields, level_count}
 use Rattle.verity_plan.specs.PlanCounts.{level_count_of}
 use Rattle.verity_plan.specs.Settings.{fan, least_from, log2, slot_count}
-use Rattle.verity_tree.specs.Windows.{window_blocks}
+use Rattle.verity_blocks.specs.Windows.{window_blocks}
 use Rattle.verity_c_api.specs.Building.{file_memory_length_of, memory_length_of}
 use Rattle.verity_c_api.specs.Parameters.{fsverity_plan_of, fsverity_tree_of, plan_of}
 use Rattle.verity_c_api.specs.declared.parameters.FsverityParams.{FsverityParams}

@@ -14,11 +14,11 @@ use Rattle.verity_plan.specs.declared.plan_fault.PlanFault.{PlanFault}
 use Rattle.verity_plan.specs.declared.plan_fault.PlanFault.TheVariants.{NoData, TooLarge as NoRoom}
 use Rattle.verity_plan.specs.PlanCounts.{level_count_of, most_level_count}
 use Rattle.verity_plan.specs.Settings.{IsValid, TreeSettingsFields, digest_len}
-use Rattle.verity_tree.proofs.FilePlans.{file_levels, no-levels, plan_of_file-is}
-use Rattle.verity_tree.specs.Feeding.{is_too_large}
-use Rattle.verity_tree.specs.FileTrees.{last_block_fault, levels_of_file}
-use Rattle.verity_tree.specs.declared.feed_fault.FeedFault.{FeedFault}
-use Rattle.verity_tree.specs.declared.feed_fault.FeedFault.TheVariants.{Level, TooLarge, Waiting}
+use Rattle.verity_builders.proofs.FilePlans.{file_levels, no-levels, plan_of_file-is}
+use Rattle.verity_builders.specs.Feeding.{is_too_large}
+use Rattle.verity_builders.specs.FileTrees.{last_block_fault, levels_of_file}
+use Rattle.verity_builders.specs.declared.feed_fault.FeedFault.{FeedFault}
+use Rattle.verity_builders.specs.declared.feed_fault.FeedFault.TheVariants.{Level, TooLarge, Waiting}
 use Rattle.verity_c_api.proofs.ParameterLemmas.{file_settings-made, of_plan}
 use Rattle.verity_c_api.proofs.StatusLemmas.{fault-not_done}
 use Rattle.verity_c_api.specs.Building.{TakesPiece, file_memory_length_of, unless, with_file_memory}

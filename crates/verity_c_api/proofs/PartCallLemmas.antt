@@ -11,11 +11,11 @@ use Rattle.std.specs.Prelude.{◌==◌, min, nat_le, nat_lt}
 use Rattle.verity_plan.specs.Plans.{PlanFields}
 use Rattle.verity_plan.specs.PlanCounts.{level_count_of, count_under}
 use Rattle.verity_plan.specs.Settings.{digest_len}
-use Rattle.verity_tree.specs.ClosingOrder.{BlockIndex}
-use Rattle.verity_tree.specs.Feeding.{FeedCall, feeding_length}
-use Rattle.verity_tree.specs.Parts.{BuildsPartInCalls, FeedsPart, FeedsPartCalls, HasPart, IsFedPart, IsHandedOutOfPart}
-use Rattle.verity_tree.specs.Parts.{bytes_of_part, digest_of_part, handed_out_of_part, blocks_in_part, plan_of_part}
-use Rattle.verity_tree.specs.PartsBuiltAgain.{IsCallForPart as IsBuilderCall}
+use Rattle.verity_blocks.specs.ClosingOrder.{BlockIndex}
+use Rattle.verity_builders.specs.Feeding.{FeedCall, feeding_length}
+use Rattle.verity_builders.specs.Parts.{BuildsPartInCalls, FeedsPart, FeedsPartCalls, HasPart, IsFedPart, IsHandedOutOfPart}
+use Rattle.verity_builders.specs.Parts.{bytes_of_part, digest_of_part, handed_out_of_part, blocks_in_part, plan_of_part}
+use Rattle.verity_builders.specs.PartsBuiltAgain.{IsCallForPart as IsBuilderCall}
 use Rattle.verity_c_api.proofs.BuildingLemmas.{given-by, handed-by}
 use Rattle.verity_c_api.proofs.StatusLemmas.{room-of}
 use Rattle.verity_c_api.specs.BuildingLoop.{hash_block_by}

@@ -4,13 +4,13 @@ use Rattle.std.proofs.Common.{◌≡◌, ℕ, ◌<◌, ◌≤◌, List, [], leng
 use Rattle.std.proofs.Common.{inl, inr, sym, subst}
 use Rattle.verity_plan.specs.Plans.{IsPlan, PlanFields}
 use Rattle.verity_plan.specs.PlanCounts.{count_under}
-use Rattle.verity_tree.proofs.PartCalls.{parts-build}
-use Rattle.verity_tree.proofs.StandingLemmas.{put-holds}
-use Rattle.verity_tree.proofs.JoinedLists.{flat_map-same}
-use Rattle.verity_tree.specs.Feeding.{FeedCall}
-use Rattle.verity_tree.specs.Levels.{data_blocks, root}
-use Rattle.verity_tree.specs.Parts.{BuildsFromParts, PartInCalls, bytes_of_part, digest_of_part}
-use Rattle.verity_tree.specs.TreeOnDevice.{HoldsTree}
+use Rattle.verity_builders.proofs.PartCalls.{parts-build}
+use Rattle.verity_pass.proofs.PutTree.{put-holds}
+use Rattle.verity_blocks.proofs.JoinedLists.{flat_map-same}
+use Rattle.verity_builders.specs.Feeding.{FeedCall}
+use Rattle.verity_blocks.specs.Levels.{data_blocks, root}
+use Rattle.verity_builders.specs.Parts.{BuildsFromParts, PartInCalls, bytes_of_part, digest_of_part}
+use Rattle.verity_blocks.specs.TreeOnDevice.{HoldsTree}
 use Rattle.verity_c_api.proofs.JoinCallLemmas.{all_digests, join-built}
 use Rattle.verity_c_api.proofs.ParameterLemmas.{file_plan-made, plan-made}
 use Rattle.verity_c_api.proofs.PartCallLemmas.{IsPartBuilt, call-for_part, part-built}

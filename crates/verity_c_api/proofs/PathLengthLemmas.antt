@@ -10,8 +10,8 @@ use Rattle.verity_plan.proofs.FitLemmas.{power_of_two-exponent}
 use Rattle.verity_plan.proofs.PlanLemmas.{level_count-few, level_count-least}
 use Rattle.verity_plan.specs.Plans.{level_count}
 use Rattle.verity_plan.specs.Settings.{IsValid, TreeSettingsFields, digest_len, fan}
-use Rattle.verity_tree.specs.Feeding.{feeding_length}
-use Rattle.verity_tree.specs.Windows.{window_blocks, window_length}
+use Rattle.verity_builders.specs.Feeding.{feeding_length}
+use Rattle.verity_blocks.specs.Windows.{window_blocks, window_length}
 use Rattle.verity_c_api.specs.Building.{file_memory_length_of}
 
 -- a hash block has fewer bytes than 128 times its slots

@@ -15,14 +15,14 @@ use Rattle.verity_plan.proofs.CountLemmas.{le-div_ceil}
 use Rattle.verity_plan.proofs.FanLemmas.{some_data}
 use Rattle.verity_plan.specs.Plans.{IsPlan, PlanFields, block_count, plan_of_file}
 use Rattle.verity_plan.specs.Settings.{TreeSettingsFields, digest_len}
-use Rattle.verity_tree.proofs.PathLemmas.{accepted-true}
-use Rattle.verity_tree.proofs.PathSteps.{same_or_two}
-use Rattle.verity_tree.proofs.RootLemmas.{length-root_of_file, root_of_some}
-use Rattle.verity_tree.specs.Collisions.{Collide}
-use Rattle.verity_tree.specs.Levels.{block_at, cut, data_blocks, root, root_of_file}
-use Rattle.verity_tree.specs.Paths.{ChecksBlock, IsAccepted}
-use Rattle.verity_tree.specs.declared.path.PathFault.{PathFault}
-use Rattle.verity_tree.specs.declared.path.PathFault.TheVariants as of_path
+use Rattle.verity_pass.proofs.AcceptedPaths.{accepted-true}
+use Rattle.verity_pass.proofs.PathSteps.{same_or_two}
+use Rattle.verity_pass.proofs.RootLevels.{length-root_of_file, root_of_some}
+use Rattle.verity_pass.specs.Collisions.{Collide}
+use Rattle.verity_blocks.specs.Levels.{block_at, cut, data_blocks, root, root_of_file}
+use Rattle.verity_pass.specs.Paths.{ChecksBlock, IsAccepted}
+use Rattle.verity_pass.specs.declared.path.PathFault.{PathFault}
+use Rattle.verity_pass.specs.declared.path.PathFault.TheVariants as of_path
 use Rattle.verity_c_api.proofs.ParameterLemmas.{file_plan-made, file_settings-made}
 use Rattle.verity_c_api.proofs.StatusLemmas.{fault-not_done}
 use Rattle.verity_c_api.specs.Answers.{AnswersBlock, descriptor_in, file_digest_in, with_root}

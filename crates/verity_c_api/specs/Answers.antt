@@ -9,10 +9,10 @@ use Rattle.verity_format.specs.declared.super_fault.SuperFault.{SuperFault}
 use Rattle.verity_plan.specs.Plans.{PlanFields, end_place_of, start_byte_of, superblock_size}
 use Rattle.verity_plan.specs.PlanCounts.{level_count_of, level_size_of}
 use Rattle.verity_plan.specs.Settings.{TreeSettingsFields, digest_len, fan}
-use Rattle.verity_tree.specs.Links.{checked_link, checked_top}
-use Rattle.verity_tree.specs.Paths.{ChecksBlock}
-use Rattle.verity_tree.specs.declared.path.PathFault.{PathFault}
-use Rattle.verity_tree.specs.declared.path.PathFault.TheVariants.{DiffersAt}
+use Rattle.verity_pass.specs.Links.{checked_link, checked_top}
+use Rattle.verity_pass.specs.Paths.{ChecksBlock}
+use Rattle.verity_pass.specs.declared.path.PathFault.{PathFault}
+use Rattle.verity_pass.specs.declared.path.PathFault.TheVariants.{DiffersAt}
 use Rattle.verity_c_api.specs.Parameters.{default_params, parameters_of, plan_of}
 use Rattle.verity_c_api.specs.Statuses.{done, fault_of_superblock, fault_status, link_status, path_status}
 use Rattle.verity_c_api.specs.declared.fault.Fault.{Fault}

@@ -7,15 +7,15 @@ use Rattle.verity_format.specs.Descriptors.{digest_of_file}
 use Rattle.verity_plan.specs.Plans.{PlanFields, start_byte_of}
 use Rattle.verity_plan.specs.PlanCounts.{level_count_of, most_level_count}
 use Rattle.verity_plan.specs.Settings.{TreeSettingsFields, digest_len, fan}
-use Rattle.verity_tree.specs.ClosingOrder.{BlockIndex, block_index, blocks_before, handed_out}
-use Rattle.verity_tree.specs.Feeding.{IsFed, IsFedFile, IsHandedOut, IsPlaced, end_fault, feed_fault, feeding_length}
-use Rattle.verity_tree.specs.Feeding.{file_fault}
-use Rattle.verity_tree.specs.Levels.{data_blocks, root, root_of_file}
-use Rattle.verity_tree.specs.declared.feed_fault.FeedFault.{FeedFault}
-use Rattle.verity_tree.specs.declared.file_builder.FileBuilder.{FileBuilder}
-use Rattle.verity_tree.specs.declared.tree_builder.Fed.{Fed}
-use Rattle.verity_tree.specs.declared.tree_builder.HashBlock.{HashBlock}
-use Rattle.verity_tree.specs.declared.tree_builder.TreeBuilder.{TreeBuilder}
+use Rattle.verity_blocks.specs.ClosingOrder.{BlockIndex, block_index, blocks_before, handed_out}
+use Rattle.verity_builders.specs.Feeding.{IsFed, IsFedFile, IsHandedOut, IsPlaced, end_fault, feed_fault, feeding_length}
+use Rattle.verity_builders.specs.Feeding.{file_fault}
+use Rattle.verity_blocks.specs.Levels.{data_blocks, root, root_of_file}
+use Rattle.verity_builders.specs.declared.feed_fault.FeedFault.{FeedFault}
+use Rattle.verity_builders.specs.declared.file_builder.FileBuilder.{FileBuilder}
+use Rattle.verity_builders.specs.declared.tree_builder.Fed.{Fed}
+use Rattle.verity_blocks.specs.declared.hash_block.HashBlock.{HashBlock}
+use Rattle.verity_builders.specs.declared.tree_builder.TreeBuilder.{TreeBuilder}
 use Rattle.verity_c_api.specs.Answers.{number_in}
 use Rattle.verity_c_api.specs.Parameters.{fsverity_tree_of, plan_of}
 use Rattle.verity_c_api.specs.Statuses.{fault_of_feed}

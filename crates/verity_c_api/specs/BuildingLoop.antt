@@ -6,10 +6,10 @@ use Rattle.std.specs.Prelude.{None, Ok, IfOk, if◌then◌else◌}
 use Rattle.std.specs.List.{flat_map}
 use Rattle.verity_plan.specs.Plans.{PlanFields}
 use Rattle.verity_plan.specs.Settings.{digest_len}
-use Rattle.verity_tree.specs.Feeding.{BuildsInCalls, FeedCall, written_all}
-use Rattle.verity_tree.specs.Levels.{data_blocks, root}
-use Rattle.verity_tree.specs.TreeOnDevice.{HoldsTree}
-use Rattle.verity_tree.specs.declared.tree_builder.HashBlock.{HashBlock}
+use Rattle.verity_builders.specs.Feeding.{BuildsInCalls, FeedCall, written_all}
+use Rattle.verity_blocks.specs.Levels.{data_blocks, root}
+use Rattle.verity_blocks.specs.TreeOnDevice.{HoldsTree}
+use Rattle.verity_blocks.specs.declared.hash_block.HashBlock.{HashBlock}
 use Rattle.verity_c_api.specs.Building.{HandsOut, IsFedTo, TakesPiece, block_of, root_in, with_all_fed, with_memory}
 use Rattle.verity_c_api.specs.Building.{with_file_memory, with_piece}
 use Rattle.verity_c_api.specs.FileTrees.{TakesFilePiece, with_tree_piece}

@@ -5,13 +5,13 @@ use Rattle.std.specs.Prelude.{◌≡◌, ◌≢◌, ◌<◌, ◌≤◌, ◌⊎�
 use Rattle.std.specs.Prelude.{Result, Ok, Err, if◌then◌else◌}
 use Rattle.verity_plan.specs.Plans.{plan_of_file}
 use Rattle.verity_plan.specs.Settings.{TreeSettingsFields, digest_len}
-use Rattle.verity_tree.specs.ClosingOrder.{handed_out}
-use Rattle.verity_tree.specs.FileTrees.{IsFedFileTree, IsFinal, IsPlacedInFile, file_blocks, last_block_fault}
-use Rattle.verity_tree.specs.FileTrees.{end_index, piece_fault, root_fault}
-use Rattle.verity_tree.specs.TreeOnDevice.{tree_block}
-use Rattle.verity_tree.specs.declared.file_tree_builder.FileFed.{FileFed}
-use Rattle.verity_tree.specs.declared.file_tree_builder.FileHashBlock.{FileHashBlock}
-use Rattle.verity_tree.specs.declared.file_tree_builder.FileTreeBuilder.{FileTreeBuilder}
+use Rattle.verity_blocks.specs.ClosingOrder.{handed_out}
+use Rattle.verity_builders.specs.FileTrees.{IsFedFileTree, IsFinal, IsPlacedInFile, file_blocks, last_block_fault}
+use Rattle.verity_builders.specs.FileTrees.{end_index, piece_fault, root_fault}
+use Rattle.verity_blocks.specs.TreeOnDevice.{tree_block}
+use Rattle.verity_builders.specs.declared.file_tree_builder.FileFed.{FileFed}
+use Rattle.verity_builders.specs.declared.file_tree_builder.FileHashBlock.{FileHashBlock}
+use Rattle.verity_builders.specs.declared.file_tree_builder.FileTreeBuilder.{FileTreeBuilder}
 use Rattle.verity_c_api.specs.Building.{file_memory_length_of, given_by, unless, without_block}
 use Rattle.verity_c_api.specs.Parameters.{fsverity_tree_of}
 use Rattle.verity_c_api.specs.declared.build.VerityBuild.{VerityBuild}

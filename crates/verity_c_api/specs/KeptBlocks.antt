@@ -4,7 +4,7 @@ use Rattle.std.specs.Prelude.{◌≡◌, ◌⊎◌, ◌<◌, ℕ, ◌+◌, ◌/�
 use Rattle.verity_plan.specs.Plans.{PlanFields}
 use Rattle.verity_plan.specs.PlanCounts.{level_count_of}
 use Rattle.verity_plan.specs.Settings.{fan}
-use Rattle.verity_tree.specs.KeptBlocks.{CheckedBlock}
+use Rattle.verity_pass.specs.KeptBlocks.{CheckedBlock}
 use Rattle.verity_c_api.specs.Answers.{link_status_in, top_status_in, with_root}
 use Rattle.verity_c_api.specs.Statuses.{done}
 use Rattle.verity_c_api.specs.declared.fault.Fault.{Fault}

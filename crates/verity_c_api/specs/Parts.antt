@@ -7,15 +7,15 @@ use Rattle.verity_format.specs.Descriptors.{digest_of_file}
 use Rattle.verity_plan.specs.Plans.{PlanFields, start_byte_of}
 use Rattle.verity_plan.specs.PlanCounts.{level_count_of, count_under}
 use Rattle.verity_plan.specs.Settings.{digest_len, fan}
-use Rattle.verity_tree.specs.ClosingOrder.{blocks_before}
-use Rattle.verity_tree.specs.Feeding.{feeding_length}
-use Rattle.verity_tree.specs.Levels.{data_blocks, root}
-use Rattle.verity_tree.specs.Parts.{AreDigests, IsDigestOfPart, IsFedPart, IsHandedOutOfJoin, IsHandedOutOfPart}
-use Rattle.verity_tree.specs.Parts.{IsJoined, IsPlacedOfJoin, IsPlacedOfPart, digest_fault, digests_fault, first_block}
-use Rattle.verity_tree.specs.Parts.{handed_out_of_join, handed_out_of_part, join_fault, join_length, blocks_in_part}
-use Rattle.verity_tree.specs.Parts.{piece_fault, plan_of_part}
-use Rattle.verity_tree.specs.declared.join_builder.JoinBuilder.{JoinBuilder}
-use Rattle.verity_tree.specs.declared.part_builder.PartBuilder.{PartBuilder}
+use Rattle.verity_blocks.specs.ClosingOrder.{blocks_before}
+use Rattle.verity_builders.specs.Feeding.{feeding_length}
+use Rattle.verity_blocks.specs.Levels.{data_blocks, root}
+use Rattle.verity_builders.specs.Parts.{AreDigests, IsDigestOfPart, IsFedPart, IsHandedOutOfJoin, IsHandedOutOfPart}
+use Rattle.verity_builders.specs.Parts.{IsJoined, IsPlacedOfJoin, IsPlacedOfPart, digest_fault, digests_fault, first_block}
+use Rattle.verity_builders.specs.Parts.{handed_out_of_join, handed_out_of_part, join_fault, join_length, blocks_in_part}
+use Rattle.verity_builders.specs.Parts.{piece_fault, plan_of_part}
+use Rattle.verity_builders.specs.declared.join_builder.JoinBuilder.{JoinBuilder}
+use Rattle.verity_builders.specs.declared.part_builder.PartBuilder.{PartBuilder}
 use Rattle.verity_c_api.specs.Answers.{number_in}
 use Rattle.verity_c_api.specs.Building.{block_of, given_by, unless, without_block}
 use Rattle.verity_c_api.specs.declared.build.VerityFed.{VerityFed}

@@ -10,12 +10,12 @@ use Rattle.verity_format.specs.Descriptors.{digest_of_file}
 use Rattle.verity_plan.specs.Plans.{PlanFields}
 use Rattle.verity_plan.specs.PlanCounts.{count_under}
 use Rattle.verity_plan.specs.Settings.{digest_len, fan}
-use Rattle.verity_tree.specs.ClosingOrder.{closed_after, times}
-use Rattle.verity_tree.specs.Feeding.{FeedCall, given, written_all}
-use Rattle.verity_tree.specs.Levels.{data_blocks, root}
-use Rattle.verity_tree.specs.Parts.{JoinInCalls, PartInCalls, bytes_of_part, digest_of_part}
-use Rattle.verity_tree.specs.TreeOnDevice.{HoldsTree}
-use Rattle.verity_tree.specs.TreeWriting.{tree_on_device}
+use Rattle.verity_blocks.specs.ClosingOrder.{closed_after, times}
+use Rattle.verity_builders.specs.Feeding.{FeedCall, given, written_all}
+use Rattle.verity_blocks.specs.Levels.{data_blocks, root}
+use Rattle.verity_builders.specs.Parts.{JoinInCalls, PartInCalls, bytes_of_part, digest_of_part}
+use Rattle.verity_blocks.specs.TreeOnDevice.{HoldsTree}
+use Rattle.verity_blocks.specs.TreeWriting.{tree_on_device}
 use Rattle.verity_c_api.specs.Building.{root_in}
 use Rattle.verity_c_api.specs.BuildingLoop.{hash_block_by}
 use Rattle.verity_c_api.specs.Parts.{AreNextDigests, HandsOutOfJoin, HandsOutOfPart, IsDigestOfFed, IsFedPartTo, IsJoinedTo}

@@ -6,12 +6,12 @@ use Rattle.verity_plan.specs.declared.plan_fault.PlanFault.{PlanFault}
 use Rattle.verity_plan.specs.declared.plan_fault.PlanFault.TheVariants as plan
 use Rattle.verity_plan.specs.declared.setting_fault.SettingFault.{SettingFault}
 use Rattle.verity_plan.specs.declared.setting_fault.SettingFault.TheVariants as setting
-use Rattle.verity_tree.specs.declared.feed_fault.FeedFault.{FeedFault}
-use Rattle.verity_tree.specs.declared.feed_fault.FeedFault.TheVariants as feed
-use Rattle.verity_tree.specs.declared.link.LinkFault.{LinkFault}
-use Rattle.verity_tree.specs.declared.link.LinkFault.TheVariants as link
-use Rattle.verity_tree.specs.declared.path.PathFault.{PathFault}
-use Rattle.verity_tree.specs.declared.path.PathFault.TheVariants as path
+use Rattle.verity_builders.specs.declared.feed_fault.FeedFault.{FeedFault}
+use Rattle.verity_builders.specs.declared.feed_fault.FeedFault.TheVariants as feed
+use Rattle.verity_pass.specs.declared.link.LinkFault.{LinkFault}
+use Rattle.verity_pass.specs.declared.link.LinkFault.TheVariants as link
+use Rattle.verity_pass.specs.declared.path.PathFault.{PathFault}
+use Rattle.verity_pass.specs.declared.path.PathFault.TheVariants as path
 use Rattle.verity_c_api.specs.declared.fault.Fault.{Fault}
 use Rattle.verity_c_api.specs.declared.fault.Fault.TheVariants.{Differs, Index, Level, Length, Root, Algorithm}
 use Rattle.verity_c_api.specs.declared.fault.Fault.TheVariants.{HashType, DataBlockSize, HashBlockSize, SaltSize}

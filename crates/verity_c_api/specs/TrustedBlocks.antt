@@ -4,9 +4,9 @@ use Rattle.std.specs.Prelude.{◌≡◌, ◌⊎◌, ◌<◌, ℕ, List, length, 
 use Rattle.verity_format.specs.Descriptors.{DescriptorFields, descriptor_bytes}
 use Rattle.verity_plan.specs.Plans.{block_count, plan_of_file}
 use Rattle.verity_plan.specs.Settings.{TreeSettingsFields}
-use Rattle.verity_tree.specs.Collisions.{Collide}
-use Rattle.verity_tree.specs.Levels.{block_at, data_blocks, root_of_file}
-use Rattle.verity_tree.specs.Paths.{HasCollision}
+use Rattle.verity_pass.specs.Collisions.{Collide}
+use Rattle.verity_blocks.specs.Levels.{block_at, data_blocks, root_of_file}
+use Rattle.verity_pass.specs.Paths.{HasCollision}
 use Rattle.verity_c_api.specs.Answers.{AnswersBlock, descriptor_in, file_digest_in, with_root}
 use Rattle.verity_c_api.specs.Parameters.{fsverity_plan_of, fsverity_tree_of}
 use Rattle.verity_c_api.specs.Statuses.{done}

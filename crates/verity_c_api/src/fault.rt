@@ -4,9 +4,10 @@ ghost use Rattle.verity_c_api.specs.Statuses.{fault_of_feed, fault_of_plan, faul
 ghost use Rattle.verity_c_api.specs.Statuses.{fault_status, link_status, path_status};
 ghost use Rattle.verity_c_api.specs.Texts.{fault_numbered, text_of_fault};
 
+use verity_builders::FeedFault;
 use verity_format::SuperFault;
+use verity_pass::{LinkFault, PathFault};
 use verity_plan::{PlanFault, SettingFault};
-use verity_tree::{FeedFault, LinkFault, PathFault};
 
 /// The status of a call that has done what it is for.
 pub const DONE: i32 = 0;

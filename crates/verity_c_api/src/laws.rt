@@ -6,9 +6,9 @@ ghost use Rattle.verity_format.specs.Superblocks.{IsValidSuperblock, SuperblockF
 ghost use Rattle.verity_plan.specs.PlanCounts.{level_count_of, count_under, most_level_count};
 ghost use Rattle.verity_plan.specs.Plans.{PlanFields, plan_at, superblock_size};
 ghost use Rattle.verity_plan.specs.Settings.{TreeSettingsFields, digest_len};
-ghost use Rattle.verity_tree.specs.Levels.{data_blocks, root};
-ghost use Rattle.verity_tree.specs.KeptBlocks.{AreTrueOrCollide, CheckedBlock};
-ghost use Rattle.verity_tree.specs.Parts.{bytes_of_part};
+ghost use Rattle.verity_blocks.specs.Levels.{data_blocks, root};
+ghost use Rattle.verity_pass.specs.KeptBlocks.{AreTrueOrCollide, CheckedBlock};
+ghost use Rattle.verity_builders.specs.Parts.{bytes_of_part};
 ghost use Rattle.verity_c_api.specs.Answers.{superblock_in};
 ghost use Rattle.verity_c_api.specs.FileTrees.{with_last_block};
 ghost use Rattle.verity_c_api.specs.Statuses.{done, fault_status, status_of};

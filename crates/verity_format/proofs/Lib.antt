@@ -1,7 +1,7 @@
-pub mod FieldLemmas
-pub mod NameLemmas
-pub mod ReadLemmas
-pub mod TextLemmas
-pub mod SuperblockLemmas
-pub mod PadLemmas
 pub mod DescriptorLemmas
+mod FieldLemmas
+pub mod NameLemmas
+mod PadLemmas
+pub mod ReadLemmas
+pub mod SuperblockLemmas
+pub mod TextLemmas

@@ -1,3 +1,3 @@
-pub mod FilledBuffers
-pub mod Padded
+mod FilledBuffers
 pub mod KnownLemmas
+mod Padded

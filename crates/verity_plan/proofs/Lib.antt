@@ -1,9 +1,9 @@
-pub mod LeastLemmas
 pub mod CountLemmas
-pub mod IndexLemmas
+mod DefinitionExamples
 pub mod FanLemmas
 pub mod FitLemmas
+pub mod IndexLemmas
+pub mod LeastLemmas
 pub mod LimitLemmas
 pub mod PlaceLemmas
 pub mod PlanLemmas
-pub mod DefinitionExamples

@@ -19,14 +19,15 @@ use Rattle.verity_plan.specs.Settings.{fan}
 use Rattle.verity_plan.proofs.CountLemmas.{le-div_ceil, mul_le}
 use Rattle.verity_plan.proofs.FanLemmas.{fan-some}
 use Rattle.verity_plan.proofs.IndexLemmas.{quotient-below}
-use Rattle.verity_tree.specs.ClosingOrder.{BlockIndex, block_index, closed_after, closes, closing_with}
-use Rattle.verity_tree.specs.FirstDifferences.{closes_before, closing_moment, earlier, earliest, first_of_each}
-use Rattle.verity_tree.specs.Levels.{data_blocks}
-use Rattle.verity_tree.specs.Parts.{closed_in_join, closed_in_part}
-use Rattle.verity_tree.specs.Verdicts.{differs, verdict, verdict_by}
-use Rattle.verity_tree.proofs.DataBlockLemmas.{whole_blocks-all}
-use Rattle.verity_tree.proofs.OrderLemmas.{closes-time}
-use Rattle.verity_tree.proofs.OrderSplit.{passing}
+use Rattle.verity_blocks.specs.ClosingOrder.{BlockIndex, block_index, closed_after, closes, closing_with}
+use Rattle.verity_tree.specs.FirstDifferences.{closes_before, earlier, earliest, first_of_each}
+use Rattle.verity_blocks.specs.ClosingOrder.{closing_moment}
+use Rattle.verity_blocks.specs.Levels.{data_blocks}
+use Rattle.verity_builders.specs.Parts.{closed_in_join, closed_in_part}
+use Rattle.verity_pass.specs.Verdicts.{differs, verdict, verdict_by}
+use Rattle.verity_blocks.proofs.Levels.DataBlocks.{whole_blocks-all}
+use Rattle.verity_blocks.proofs.Order.ClosesOnce.{closes-time}
+use Rattle.verity_blocks.proofs.Order.ClosingInTurn.{passing}
 
 -- what holds of each block of a list holds of the one that is found
 find-if : (P : BlockIndex → Type 0) (test : BlockIndex → Bool) (blocks : List BlockIndex) → All P blocks

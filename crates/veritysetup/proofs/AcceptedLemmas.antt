@@ -16,8 +16,8 @@ use Rattle.verity_plan.specs.Plans.{PlanFields, plan_at}
 use Rattle.verity_plan.specs.Settings.{TreeSettingsFields, hash}
 use Rattle.verity_format.specs.Superblocks.{IsSuperblock}
 use Rattle.verity_format.proofs.TextLemmas.{text_says}
-use Rattle.verity_tree.specs.Levels.{block_at, cut, data_blocks, root}
-use Rattle.verity_tree.specs.TreeOnDevice.{HoldsTree, tree_block}
+use Rattle.verity_blocks.specs.Levels.{block_at, cut, data_blocks, root}
+use Rattle.verity_blocks.specs.TreeOnDevice.{HoldsTree, tree_block}
 use Rattle.veritysetup.specs.Options.Settings.{SettingsFields, read_root}
 use Rattle.veritysetup.specs.Runs.Formatted.{IsFormattedDevice, root_above}
 use Rattle.veritysetup.specs.Runs.GivenBack.{IsGivenBack}
@@ -25,11 +25,11 @@ use Rattle.veritysetup.specs.Runs.HashDevice.{superblock_at, superblock_for}
 use Rattle.veritysetup.specs.Runs.Verified.{Describes, IsVerified, Trusts}
 use Rattle.veritysetup.specs.declared.runs.verify_input.VerifyInput.{VerifyInput}
 use Rattle.veritysetup.specs.declared.runs.verify_input.VerifyInput.TheVariants.{Stored, Given}
-use Rattle.verity_tree.specs.Comparing.{Judges}
-use Rattle.verity_tree.specs.Verdicts.{verdict}
-use Rattle.verity_tree.specs.declared.comparing.CompareFault.{CompareFault}
-use Rattle.verity_tree.specs.declared.comparing.CompareFault.TheVariants as compare
-use Rattle.verity_tree.proofs.HoldsLemmas.{holds-right}
+use Rattle.verity_pass.specs.Comparing.{Judges}
+use Rattle.verity_pass.specs.Verdicts.{verdict}
+use Rattle.verity_pass.specs.declared.comparing.CompareFault.{CompareFault}
+use Rattle.verity_pass.specs.declared.comparing.CompareFault.TheVariants as compare
+use Rattle.verity_pass.proofs.HeldTree.{holds-right}
 use Rattle.veritysetup.specs.Faults.{compare_status, result_status, side_of, status_of, status_refused}
 use Rattle.veritysetup.specs.Faults.{status_verification_failed}
 use Rattle.veritysetup.specs.Runs.Verify.{Compares, Verifies}

@@ -9,11 +9,12 @@ use Rattle.verity_plan.specs.Plans.{HasBlock, end_place_of, start_byte_of}
 use Rattle.verity_plan.proofs.PlanLemmas.{some_hash}
 use Rattle.verity_format.specs.Superblocks.{superblock_bytes}
 use Rattle.verity_format.proofs.TextLemmas.{length-superblock_bytes}
-use Rattle.verity_tree.specs.Levels.{data_blocks}
-use Rattle.verity_tree.specs.TreeOnDevice.{HoldsTree}
-use Rattle.verity_tree.specs.TreeWriting.{tree_on_device}
-use Rattle.verity_tree.proofs.BesideLemmas.{block-within, tree-byte, tree-bytes, tree-no_longer, tree-no_shorter}
-use Rattle.verity_tree.proofs.StandingLemmas.{length-put, put-before, put-byte, put-here, put-holds, range-within}
+use Rattle.verity_blocks.specs.Levels.{data_blocks}
+use Rattle.verity_blocks.specs.TreeOnDevice.{HoldsTree}
+use Rattle.verity_blocks.specs.TreeWriting.{tree_on_device}
+use Rattle.verity_pass.proofs.BesideTree.{block-within, tree-byte, tree-bytes, tree-no_longer, tree-no_shorter}
+use Rattle.verity_blocks.proofs.Order.PlacedBlocks.{length-put, put-byte, put-here, range-within}
+use Rattle.verity_pass.proofs.PutTree.{put-before, put-holds}
 use Rattle.veritysetup.specs.Options.Settings.{SettingsFields}
 use Rattle.veritysetup.specs.Runs.Formatted.{IsFormattedDevice, is_within, is_written, root_above}
 use Rattle.veritysetup.specs.Runs.HashDevice.{superblock_at, superblock_for}

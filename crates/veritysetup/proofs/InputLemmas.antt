@@ -1,6 +1,6 @@
 -- What verify goes by is one plan and one root hash, or one reason to refuse, and its plan can be carried out.
 use Rattle.std.proofs.Common.{◌≡◌, ℕ, true, List, Some, None}
-use Rattle.std.proofs.Common.{Err, sym, subst, ◌∙◌, ap, refl}
+use Rattle.std.proofs.Common.{sym, subst, ◌∙◌, ap, refl}
 use Rattle.verity_format.specs.CheckedSuperblocks.{superblock_fault}
 use Rattle.verity_format.specs.Superblocks.{IsSuperblock, SuperblockFields}
 use Rattle.verity_format.specs.declared.super_fault.SuperFault.{SuperFault}
@@ -13,7 +13,7 @@ use Rattle.veritysetup.specs.Runs.GivenBack.{IsPlanIfGiven}
 use Rattle.veritysetup.specs.Runs.HashDevice.{superblock_at}
 use Rattle.veritysetup.specs.Runs.SameVerdicts.{HaveOneSuperblock}
 use Rattle.veritysetup.specs.Runs.Verified.{Trusts}
-use Rattle.veritysetup.specs.Runs.Verify.{Refuses, Verifies}
+use Rattle.veritysetup.specs.Runs.Verify.{Refuses}
 use Rattle.veritysetup.specs.declared.fault.Fault.{Fault}
 use Rattle.veritysetup.specs.declared.fault.Fault.TheVariants as fault
 use Rattle.veritysetup.specs.declared.options.option_fault.OptionFault.TheVariants as option
@@ -153,20 +153,3 @@ trusted-planned (Given settings) device plan digest planned trusted = subst IsPl
 trusted-planned (Stored offset text) device plan digest planned trusted =
     IsPlan-plan_from trusted.fields.tree trusted.fields.blocks (base_of offset true trusted.fields.tree.hash_block) plan
     trusted.superblock.valid.tree trusted.plan_is
-
--- ---- the fault of a run
-
--- of a fault it says the same, whatever a run would have answered
-same-fault : (A B : Type 0) (input : VerifyInput) (device before after : List ℕ) (cause : Fault)
-    → Verifies {X = A} input device before after (Err cause) → Verifies {X = B} input device before after (Err cause)
-same-fault A B input device before after fault.Store this = this
-same-fault A B input device before after (fault.Compare why) this = this
-same-fault A B input device before after other this = this
-
-pub verifies-fault : (A B : Type 0) (input : VerifyInput) (device there before given after : List ℕ) (cause : Fault)
-    → device ≡ there → before ≡ given → Verifies {X = A} input device before after (Err cause)
-    → Verifies {X = B} input there given after (Err cause)
-verifies-fault A B input device there before given after cause one same this =
-    subst (λ (d : List ℕ). Verifies {X = B} input d given after (Err cause)) one
-    (subst (λ (x : List ℕ). Verifies {X = B} input device x after (Err cause)) same
-    (same-fault A B input device before after cause this))

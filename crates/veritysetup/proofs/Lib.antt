@@ -1,11 +1,11 @@
-pub mod ReportLemmas
-pub mod SettingsLemmas
-pub mod FormattedLemmas
-pub mod InputLemmas
 pub mod AcceptedLemmas
-pub mod SameVerdictLemmas
-pub mod ResumedLemmas
+mod ChoiceLemmas
 pub mod ChosenPlanLemmas
-pub mod ChoiceLemmas
-pub mod PrintedOptionLemmas
-pub mod LineLemmas
+pub mod FormattedLemmas
+mod InputLemmas
+mod LineLemmas
+mod PrintedOptionLemmas
+mod ReportLemmas
+mod ResumedLemmas
+mod SameVerdictLemmas
+pub mod SettingsLemmas

@@ -12,19 +12,19 @@ use Rattle.verity_plan.specs.Settings.{fan}
 use Rattle.verity_plan.proofs.FanLemmas.{fan-some}
 use Rattle.verity_plan.proofs.FitLemmas.{fan-fits}
 use Rattle.verity_plan.proofs.PlanLemmas.{some_hash}
-use Rattle.verity_tree.specs.ClosingOrder.{BlockIndex, ComesNext, block_index, closed_after, times}
-use Rattle.verity_tree.specs.Levels.{data_blocks}
-use Rattle.verity_tree.specs.TreeOnDevice.{tree_block}
-use Rattle.verity_tree.specs.TreeWriting.{device_with, tree_on_device}
-use Rattle.verity_tree.specs.declared.building.BuildFault.TheVariants as build
-use Rattle.verity_tree.proofs.BesideLemmas.{block-within}
-use Rattle.verity_tree.proofs.HoldsLemmas.{times-first, times-more}
-use Rattle.verity_tree.proofs.LevelLemmas.{length-cut}
-use Rattle.verity_tree.proofs.OrderLemmas.{closed_time}
-use Rattle.verity_tree.proofs.StandingLemmas.{length-put, length-tree_block, put-byte}
+use Rattle.verity_blocks.specs.ClosingOrder.{BlockIndex, ComesNext, block_index, closed_after, times}
+use Rattle.verity_blocks.specs.Levels.{data_blocks}
+use Rattle.verity_blocks.specs.TreeOnDevice.{tree_block}
+use Rattle.verity_blocks.specs.TreeWriting.{device_with, tree_on_device}
+use Rattle.verity_pass.specs.declared.building.BuildFault.TheVariants as build
+use Rattle.verity_pass.proofs.BesideTree.{block-within}
+use Rattle.verity_blocks.proofs.Order.TimesCounted.{times-first, times-more}
+use Rattle.verity_blocks.proofs.Levels.CutBlocks.{length-cut}
+use Rattle.verity_blocks.proofs.Order.ClosesOnce.{closed_time}
+use Rattle.verity_blocks.proofs.Order.PlacedBlocks.{length-put, length-tree_block, put-byte}
 use Rattle.veritysetup.specs.Faults.{result_status, status_refused}
 use Rattle.veritysetup.specs.Options.Settings.{SettingsFields}
-use Rattle.veritysetup.specs.Runs.Format.{Reads, Writes}
+use Rattle.veritysetup.specs.Runs.Format.{Formatted, Reads, Writes}
 use Rattle.veritysetup.specs.Runs.Formatted.{IsFormattedDevice, is_written}
 use Rattle.veritysetup.specs.Runs.HashDevice.{superblock_at}
 use Rattle.veritysetup.specs.Runs.Resumed.{IsBeforeSuperblock, IsStoredAt, KeepsOthers}
@@ -32,7 +32,6 @@ use Rattle.veritysetup.specs.Runs.Verify.{Verifies}
 use Rattle.veritysetup.specs.declared.fault.Fault.{Fault}
 use Rattle.veritysetup.specs.declared.fault.Fault.TheVariants as fault
 use Rattle.veritysetup.specs.declared.options.option_fault.OptionFault.TheVariants as option
-use Rattle.veritysetup.specs.declared.runs.format.Formatted.{Formatted}
 use Rattle.veritysetup.specs.declared.runs.verify_input.VerifyInput.{VerifyInput}
 use Rattle.veritysetup.specs.declared.runs.verify_input.VerifyInput.TheVariants.{Stored, Given}
 use Rattle.veritysetup.proofs.FormattedLemmas.{beside-superblock, beside-tree, formatted-no_longer}

@@ -15,17 +15,17 @@ use Rattle.verity_plan.specs.Plans.{HasBlock, IsPlan, PlanFields, end_place_of, 
 use Rattle.verity_plan.specs.Settings.{fan}
 use Rattle.verity_plan.proofs.FanLemmas.{fan-some, some_data}
 use Rattle.verity_plan.proofs.IndexLemmas.{quotient-below}
-use Rattle.verity_tree.specs.ClosingOrder.{BlockIndex, ComesNext, closed_after, times}
-use Rattle.verity_tree.specs.Comparing.{CompareReads, Judges}
-use Rattle.verity_tree.specs.Levels.{data_blocks, root, whole_blocks}
-use Rattle.verity_tree.specs.Reading.{bytes_of}
-use Rattle.verity_tree.specs.TreeOnDevice.{stored_block, tree_block}
-use Rattle.verity_tree.specs.Verdicts.{HoldsBlockAt, NoneDiffers, difference, differs, part_of, verdict, verdict_by}
-use Rattle.verity_tree.specs.declared.comparing.CompareFault.{CompareFault}
-use Rattle.verity_tree.specs.declared.comparing.CompareFault.TheVariants as compare
-use Rattle.verity_tree.proofs.BesideLemmas.{block-within}
-use Rattle.verity_tree.proofs.HoldsLemmas.{times-first, times-more}
-use Rattle.verity_tree.proofs.OrderLemmas.{closed_time}
+use Rattle.verity_blocks.specs.ClosingOrder.{BlockIndex, ComesNext, closed_after, times}
+use Rattle.verity_pass.specs.Comparing.{CompareReads, Judges}
+use Rattle.verity_blocks.specs.Levels.{data_blocks, root, whole_blocks}
+use Rattle.verity_pass.specs.Reading.{bytes_of}
+use Rattle.verity_blocks.specs.TreeOnDevice.{stored_block, tree_block}
+use Rattle.verity_pass.specs.Verdicts.{HoldsBlockAt, NoneDiffers, difference, differs, part_of, verdict, verdict_by}
+use Rattle.verity_pass.specs.declared.comparing.CompareFault.{CompareFault}
+use Rattle.verity_pass.specs.declared.comparing.CompareFault.TheVariants as compare
+use Rattle.verity_pass.proofs.BesideTree.{block-within}
+use Rattle.verity_blocks.proofs.Order.TimesCounted.{times-first, times-more}
+use Rattle.verity_blocks.proofs.Order.ClosesOnce.{closed_time}
 use Rattle.veritysetup.specs.Faults.{side_of}
 use Rattle.veritysetup.specs.Runs.GivenBack.{IsPlanIfGiven}
 use Rattle.veritysetup.specs.Runs.SameVerdicts.{AreAlike, IsJudged, hash_area}

@@ -9,10 +9,10 @@ use Rattle.command_line.specs.declared.words.line_fault.LineFault.TheVariants as
 use Rattle.command_line.specs.declared.writing.print_fault.PrintFault.{PrintFault}
 use Rattle.command_line.specs.declared.writing.print_fault.PrintFault.TheVariants as print
 use Rattle.verity_io.specs.Counting.{Side, TheDevice}
-use Rattle.verity_tree.specs.Building as building
-use Rattle.verity_tree.specs.Comparing as comparing
-use Rattle.verity_tree.specs.declared.comparing.CompareFault.{CompareFault}
-use Rattle.verity_tree.specs.declared.comparing.CompareFault.TheVariants as compare
+use Rattle.verity_pass.specs.Building as building
+use Rattle.verity_pass.specs.Comparing as comparing
+use Rattle.verity_pass.specs.declared.comparing.CompareFault.{CompareFault}
+use Rattle.verity_pass.specs.declared.comparing.CompareFault.TheVariants as compare
 use Rattle.veritysetup.specs.Texts.Messages.{build_message, compare_message, incomplete_message, memory_message}
 use Rattle.veritysetup.specs.Texts.Messages.{no_random_message, option_message, super_message, too_large_message}
 use Rattle.veritysetup.specs.Texts.Messages.{unopened_message, unread_superblock_message, unwritten_message}

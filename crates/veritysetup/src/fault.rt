@@ -18,7 +18,7 @@ use command_line::{
 use std::alloc::Global;
 use std::io::Write;
 use verity_format::SuperFault;
-use verity_tree::{BuildFault, CompareFault};
+use verity_pass::{BuildFault, CompareFault};
 
 /// All is done.
 const STATUS_DONE: u8 = 0;

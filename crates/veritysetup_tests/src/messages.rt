@@ -1,7 +1,7 @@
 //! A message of each kind.
 use std::test::Fail;
 use verity_format::SuperFault;
-use verity_tree::{BuildFault, CompareFault, Part};
+use verity_pass::{BuildFault, CompareFault, Part};
 use veritysetup::{
     OptionFault, OptionName, build_message, compare_message, option_message, super_message,
 };

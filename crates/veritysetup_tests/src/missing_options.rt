@@ -1,7 +1,7 @@
 //! The settings of format if no option is given: the defaults, and random bytes for the salt and the UUID.
 use std::test::Fail;
 use verity_hash::Algorithm;
-use verity_tree::HashType;
+use verity_plan::HashType;
 use veritysetup::{RawOptions, settings_of};
 
 /// No option is given.

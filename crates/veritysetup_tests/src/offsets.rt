@@ -3,7 +3,7 @@ ghost use Rattle.std.specs.Prelude.{[]};
 
 use fixtures::{SUPERBLOCK_SIZE, image_17};
 use std::test::Fail;
-use verity_tree::{Device, Failed, MemorySource};
+use verity_io::{Device, Failed, MemorySource};
 use veritysetup::{VerifyInput, run_verify};
 
 /// A device that ends with these bytes from an offset on, too large for memory. It has no other bytes.

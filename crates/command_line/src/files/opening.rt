@@ -1,14 +1,20 @@
-//! Opening files.
-ghost use Rattle.std.specs.Prelude.{◌≡◌, IfOk, OnErr, OnOk, true};
-ghost use Rattle.std.specs.Fs.{IsDir, file_type, new_options, with_create, with_read, with_write};
+//! Opening files, and reading and writing them as what they are opened for.
+ghost use Rattle.std.specs.Prelude.{◌≡◌, [], take, unwrap_or, IfOk, IsSome, OnErr, OnOk, true};
+ghost use Rattle.std.specs.Fs.{IsDir, file_type, new_options, with_create, with_read, with_truncate, with_write};
+ghost use Rattle.verity_io.specs.Moving.{file_of};
 
+use crate::progress::progress_reader::ProgressReader;
+use crate::progress::progress_runtime::ProgressRuntime;
+use crate::progress::shown_progress::ShownProgress;
 use std::fs::{File, Metadata, OpenFile, OpenOptions};
 use std::io;
-use std::io::{ErrorKind, Seek, SeekFrom};
+use std::io::{ErrorKind, Read, Seek, SeekFrom, Write};
 use std::rt::Files;
+use verity_io::{Device, Failed, FileDevice, FileSource, Source};
 
-/// A file that was opened, with the path that it was asked for by. Only the functions of this module make one, so that
-/// no caller can say of a file that another path led to it.
+/// A file that was opened, or the device or source over it, with the path that it was asked for by. Only the functions
+/// of this module make one, and none lends what it holds to be changed, so that no caller can say of a file that another
+/// path led to it. It is written, or read and written at any offset, as what it holds is.
 #[derive(Drop)]
 pub struct OpenedFile<'a, F> {
     file: F,
@@ -29,17 +35,51 @@ impl<'a, F> OpenedFile<'a, F> {
     {
         &self.file
     }
+}
 
-    /// The file by itself.
-    pub fn into_file(self) -> F
-        ensures { result ≡ self.entry.file }
+impl<'a, F: Read + Write + Seek> OpenedFile<'a, F> {
+    /// The device over the file.
+    pub fn into_device(self) -> OpenedFile<'a, FileDevice<F>>
+        ensures path { result.path ≡ self.entry.path }
+        ensures file { file_of result.file ≡ self.entry.file }
     {
-        self.file
+        OpenedFile {
+            file: FileDevice::new(self.file),
+            path: self.path,
+        }
     }
 }
 
-/// A file that was opened for reading, with its length in bytes, as `open_measured` found it. Only that function makes
-/// one, so that no caller can say another length.
+impl<D: Device> Device for OpenedFile<'_, D> {
+    ghost tells = { λ d. D.tells d.file };
+
+    ghost content = { λ d. D.content d.file };
+
+    ghost failures = { λ d. D.failures d.file };
+
+    fn read_at(&mut self, at: u64, buf: &mut [u8]) -> Result<usize, Failed> {
+        self.file.read_at(at, buf)
+    }
+
+    fn write_at(&mut self, at: u64, bytes: &[u8]) -> Result<(), Failed> {
+        self.file.write_at(at, bytes)
+    }
+}
+
+impl<W: Write> Write for OpenedFile<'_, W> {
+    ghost contents = { λ w. W.contents w.file };
+
+    fn write(&mut self, buf: &[u8]) -> io::Result<usize> {
+        self.file.write(buf)
+    }
+
+    fn flush(&mut self) -> io::Result<()> {
+        self.file.flush()
+    }
+}
+
+/// A file that was opened for reading, or the source over it, with its length in bytes, as `open_measured` found it.
+/// Only this module makes one, so that no caller can say another length. It is read as what it holds is.
 #[derive(Drop)]
 pub struct MeasuredFile<'a, F> {
     opened: OpenedFile<'a, F>,
@@ -60,12 +100,43 @@ impl<'a, F> MeasuredFile<'a, F> {
     {
         self.length
     }
+}
 
-    /// The file by itself, with its path.
-    pub fn into_opened(self) -> OpenedFile<'a, F>
-        ensures { result ≡ self.entry.opened }
+impl<'a, F: Read> MeasuredFile<'a, F> {
+    /// A source of the file's bytes. `progress` shows how many of the first `total` are read.
+    pub fn into_source<'b, R: ProgressRuntime>(
+        self,
+        total: u64,
+        progress: &'b ShownProgress<'b, R>,
+    ) -> MeasuredFile<'a, FileSource<ProgressReader<'b, R, F>>>
+        ensures path { result.opened.path ≡ self.entry.opened.path }
+        ensures length { result.length ≡ self.entry.length }
+        ensures told { IsSome (F.remaining self.entry.opened.file)
+            → ⟦<FileSource<ProgressReader<'b, R, F>> as Source>⟧.tells result.opened.file }
+        ensures bytes { ⟦<FileSource<ProgressReader<'b, R, F>> as Source>⟧.remaining result.opened.file
+            ≡ take self.entry.length (unwrap_or (F.remaining self.entry.opened.file) []) }
+        ensures failures { ⟦<FileSource<ProgressReader<'b, R, F>> as Source>⟧.failures result.opened.file ≡ 0 }
     {
-        self.opened
+        let length = self.length;
+        let OpenedFile { file, path } = self.opened;
+        let reader = ProgressReader::new(file, total, progress);
+        let opened = OpenedFile {
+            file: FileSource::new(reader, length),
+            path,
+        };
+        MeasuredFile { opened, length }
+    }
+}
+
+impl<S: Source> Source for MeasuredFile<'_, S> {
+    ghost tells = { λ s. S.tells s.opened.file };
+
+    ghost remaining = { λ s. S.remaining s.opened.file };
+
+    ghost failures = { λ s. S.failures s.opened.file };
+
+    fn read(&mut self, buf: &mut [u8]) -> Result<usize, Failed> {
+        self.opened.file.read(buf)
     }
 }
 
@@ -106,9 +177,26 @@ fn writable_options() -> OpenOptions
     options
 }
 
+/// A file opened for writing. It is created if it is missing, and otherwise truncated.
+pub fn open_truncated<'a, R: Files>(rt: &R, path: &'a str) -> io::Result<OpenedFile<'a, R::File>>
+    ensures { IfOk result (λ opened. opened.path ≡ path.entry) }
+{
+    let file = open_or_create(rt, truncating_options(), path)?;
+    Ok(OpenedFile { file, path })
+}
+
+/// The options for writing a file that is truncated.
+fn truncating_options() -> OpenOptions
+    ensures { result ≡ with_truncate (with_write new_options true) true }
+{
+    let mut options = OpenOptions::new();
+    options.write(true).truncate(true);
+    options
+}
+
 /// A file opened by these options. It is created if it is missing. Only then is the system asked to create it, since it
 /// may refuse that for somebody else's file in a folder such as `/tmp` (proc_sys_fs(5), "protected_regular").
-pub fn open_or_create<R: Files>(rt: &R, options: OpenOptions, path: &str) -> io::Result<R::File> {
+fn open_or_create<R: Files>(rt: &R, options: OpenOptions, path: &str) -> io::Result<R::File> {
     let mut options = options;
     match options.open(rt, path) {
         Err(error) if error.kind() == ErrorKind::NotFound => {

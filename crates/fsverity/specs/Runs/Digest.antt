@@ -1,21 +1,20 @@
 -- A run of `fsverity digest` over files, one after another (fsverity(1), "fsverity digest"): a line for each, up to the
 -- first that fails.
 use Rattle.std.specs.Prelude.{◌≡◌, ◌⊎◌, ℕ, ◌+◌, ◌<◌, ◌≤◌, Bool, true, false, not, List, [], ◌++◌, length, take, Option}
-use Rattle.std.specs.Prelude.{Some, None, slice_get, slice_index_or}
+use Rattle.std.specs.Prelude.{IfSome, Some, None, slice_get, slice_index_or}
 use Rattle.std.specs.List.{prefix_len}
 use Rattle.std.specs.Io.KnownBytes.{Appends}
 use Rattle.command_line.specs.Writing.{AppendsPrefix}
 use Rattle.verity_io.specs.Counting.{Counts, CountRose, TheSource, is_call_of}
 use Rattle.verity_plan.specs.Settings.{TreeSettingsFields}
-use Rattle.fsverity.specs.Faults.{run_side}
+use Rattle.fsverity.specs.Faults.{IsAtFile, message_of, side_of}
 use Rattle.fsverity.specs.Runs.Digested.{is_too_large, DigestInput, IsDigestAt, digest_line_at, AreDigestLines}
-use Rattle.fsverity.specs.Texts.Messages.{run_fault_message}
 use Rattle.fsverity.specs.Openers.Opening.{OpenerChange}
 use Rattle.fsverity.specs.declared.runs.digest_fault.DigestFault.TheVariants.{TooLarge, SourceShort, SourceFailed}
 use Rattle.fsverity.specs.declared.runs.digest_fault.DigestFault.TheVariants.{DeviceFailed, Memory}
-use Rattle.fsverity.specs.declared.runs.run_fault.RunFault.{RunFault}
-use Rattle.fsverity.specs.declared.runs.run_fault.RunFault.TheVariants.{Unopened, Digest, DigestLineMemory}
-use Rattle.fsverity.specs.declared.runs.run_fault.RunFault.TheVariants.{DigestLineUnwritten}
+use Rattle.fsverity.specs.declared.fault.Fault.{Fault}
+use Rattle.fsverity.specs.declared.fault.Fault.TheVariants.{Unopened, Digest, DigestLine}
+use Rattle.command_line.specs.declared.writing.print_fault.PrintFault.TheVariants.{Output}
 
 -- the file is there, and not too large
 abbrev pub has_digest : TreeSettingsFields → Option (List ℕ) → Bool
@@ -32,41 +31,42 @@ IsLargeAt s files f =
     (bytes : List ℕ) × (slice_get files f ≡ Some (Some bytes)) × (is_too_large s (length bytes) ≡ true)
 
 -- why a run ends at file f. Unopened: f is the first absent file, or a call failed. TooLarge: f is there and too large.
--- SourceShort: only if the bytes aren't told. SourceFailed, Memory, DigestLineMemory, DigestLineUnwritten: f is there
--- and not too large, and at SourceFailed a call failed. DeviceFailed: never, for there is no device
-abbrev pub HasReason : TreeSettingsFields → OpenerChange → ℕ → RunFault → Type 0
-HasReason s opener f Unopened =
+-- SourceShort: only if the bytes aren't told. SourceFailed, Memory, DigestLine: f is there and not too large, and at
+-- SourceFailed a call failed. No other fault ends a run, not even DeviceFailed, for there is no device
+abbrev pub HasReason : TreeSettingsFields → OpenerChange → ℕ → Fault → Type 0
+HasReason s opener f (Unopened name) =
     (opener.told × (slice_get opener.files f ≡ Some None) × (first_without_digest s opener.files ≡ f))
     ⊎ CountRose opener.failures_before opener.failures_after
-HasReason s opener f (Digest TooLarge) =
+HasReason s opener f (Digest TooLarge name) =
     opener.told → IsLargeAt s opener.files f × (first_without_digest s opener.files ≡ f)
-HasReason s opener f (Digest (SourceShort i)) = opener.told → ⊥
-HasReason s opener f (Digest (SourceFailed i)) =
+HasReason s opener f (Digest (SourceShort i) name) = opener.told → ⊥
+HasReason s opener f (Digest (SourceFailed i) name) =
     (opener.told → f < first_without_digest s opener.files) × CountRose opener.failures_before opener.failures_after
-HasReason s opener f (Digest (DeviceFailed level block)) = ⊥
-HasReason s opener f (Digest Memory) = opener.told → f < first_without_digest s opener.files
-HasReason s opener f DigestLineMemory = opener.told → f < first_without_digest s opener.files
-HasReason s opener f DigestLineUnwritten = opener.told → f < first_without_digest s opener.files
+HasReason s opener f (Digest (DeviceFailed level block) name) = ⊥
+HasReason s opener f (Digest Memory name) = opener.told → f < first_without_digest s opener.files
+HasReason s opener f (DigestLine cause) = opener.told → f < first_without_digest s opener.files
+HasReason s opener f other = ⊥
 
--- what is written of the line of file f, at which a run ended: if a write failed its first bytes, fewer than all, and
--- otherwise nothing
-abbrev pub IsPartOfDigestLine : DigestInput → Type 0 → List (Option (List ℕ)) → ℕ → RunFault → List ℕ → Type 0
-IsPartOfDigestLine run told files f DigestLineUnwritten part = (digest : List ℕ)
+-- what is written of the line of file f, at which a run ended: if a write failed its first bytes, so many as were
+-- taken and fewer than all, and otherwise nothing
+abbrev pub IsPartOfDigestLine : DigestInput → Type 0 → List (Option (List ℕ)) → ℕ → Fault → List ℕ → Type 0
+IsPartOfDigestLine run told files f (DigestLine (Output count)) part = (digest : List ℕ)
     × IsDigestAt run.settings told files f digest
-    × (count : ℕ) × (count < length (digest_line_at run f digest)) × (part ≡ take count (digest_line_at run f digest))
+    × (count < length (digest_line_at run f digest)) × (part ≡ take count (digest_line_at run f digest))
 IsPartOfDigestLine run told files f fault part = part ≡ []
 
 -- how the opener's count changes with a fault: a failed read raises it by one, and otherwise only a file that is not
 -- opened may raise it
-abbrev pub CountsFault : RunFault → ℕ → ℕ → Type 0
-CountsFault Unopened before after = before ≤ after
-CountsFault fault before after = Counts (is_call_of TheSource (run_side fault)) before after
+abbrev pub CountsFault : Fault → ℕ → ℕ → Type 0
+CountsFault (Unopened name) before after = before ≤ after
+CountsFault fault before after = Counts (is_call_of TheSource (side_of fault)) before after
 
--- file f ended a run: the next file is after it, and no file before it is absent or too large; the lines of the files
--- before it are written, and of its own perhaps a part
-pub record FailsAt (run : DigestInput) (opener : OpenerChange) (out out' : Option (List ℕ)) (f : ℕ) (fault : RunFault)
+-- file f ended a run: it is the one that the fault names, the next file is after it, and no file before it is absent or
+-- too large; the lines of the files before it are written, and of its own perhaps a part
+pub record FailsAt (run : DigestInput) (opener : OpenerChange) (out out' : Option (List ℕ)) (f : ℕ) (fault : Fault)
     : Type 0 where
   pub has_name : f < length run.names
+  pub at_file : IsAtFile (slice_index_or run.names f []) fault
   pub is_next : opener.next_after ≡ f + 1
   pub within : opener.told → f ≤ first_without_digest run.settings opener.files
   pub reason : HasReason run.settings opener f fault
@@ -80,6 +80,6 @@ pub record FailsAt (run : DigestInput) (opener : OpenerChange) (out out' : Optio
 -- a file ended the run, and its message is written, as far as the writer takes it
 pub record EndsAt (run : DigestInput) (opener : OpenerChange) (out out' msgs msgs' : Option (List ℕ)) : Type 0 where
   pub f : ℕ
-  pub fault : RunFault
+  pub fault : Fault
   pub fails : FailsAt run opener out out' f fault
-  pub message : AppendsPrefix (run_fault_message fault (slice_index_or run.names f [])) msgs msgs'
+  pub message : IfSome (message_of fault) (λ text. AppendsPrefix text msgs msgs')

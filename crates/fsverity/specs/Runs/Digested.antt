@@ -3,7 +3,7 @@
 use Rattle.std.specs.Prelude.{◌≡◌, ℕ, zero, suc, Bool, false, not, List, [], ◌++◌, length, Option, Some, slice_get}
 use Rattle.std.specs.Prelude.{slice_index_or, ◌&&◌, is_ok, nat_lt}
 use Rattle.verity_format.specs.Descriptors.{digest_of_file, DescriptorFields}
-use Rattle.verity_tree.specs.Levels.{root_of_file}
+use Rattle.verity_blocks.specs.Levels.{root_of_file}
 use Rattle.verity_plan.specs.Plans.{plan_for_bytes}
 use Rattle.verity_plan.specs.Settings.{TreeSettingsFields, digest_len}
 use Rattle.fsverity.specs.Texts.Lines.{digest_line}

@@ -2,8 +2,8 @@
 use Rattle.std.specs.Prelude.{◌⊎◌, ℕ, List, length}
 use Rattle.verity_format.specs.Descriptors.{DescriptorFields, descriptor_bytes}
 use Rattle.verity_plan.specs.Settings.{TreeSettingsFields}
-use Rattle.verity_tree.specs.Collisions.{Collide, TreesCollide}
-use Rattle.verity_tree.specs.Levels.{data_blocks, root_of_file}
+use Rattle.verity_pass.specs.Collisions.{Collide, TreesCollide}
+use Rattle.verity_blocks.specs.Levels.{data_blocks, root_of_file}
 use Rattle.verity_plan.specs.Plans.{plan_of_file}
 use Rattle.fsverity.specs.Runs.Digested.{descriptor_of}
 

@@ -5,11 +5,11 @@ use Rattle.std.specs.Prelude.{Some, None, IsNone, MatchOption, Result, Err, Matc
 use Rattle.verity_format.specs.Descriptors.{descriptor_bytes, digest_of_file}
 use Rattle.verity_io.specs.Counting.{Side, TheDevice, TheSource}
 use Rattle.verity_io.specs.Reading.{HasRead}
-use Rattle.verity_tree.specs.Levels.{data_blocks, root_of_file}
-use Rattle.verity_tree.specs.Building.{BuildsOnDevice}
-use Rattle.verity_tree.specs.TreeWriting.{tree_on_device}
-use Rattle.verity_tree.specs.Reading.{ReadsUpTo}
-use Rattle.verity_tree.specs.declared.building.BuildFault.{BuildFault}
+use Rattle.verity_blocks.specs.Levels.{data_blocks, root_of_file}
+use Rattle.verity_pass.specs.Building.{BuildsOnDevice}
+use Rattle.verity_blocks.specs.TreeWriting.{tree_on_device}
+use Rattle.verity_pass.specs.Reading.{ReadsUpTo}
+use Rattle.verity_pass.specs.declared.building.BuildFault.{BuildFault}
 use Rattle.verity_plan.specs.Plans.{plan_of_file}
 use Rattle.verity_plan.specs.Settings.{TreeSettingsFields, digest_len}
 use Rattle.fsverity.specs.declared.runs.digest_fault.DigestFault.{DigestFault}
@@ -17,7 +17,7 @@ use Rattle.fsverity.specs.declared.runs.digest_fault.DigestFault.TheVariants.{To
 use Rattle.fsverity.specs.declared.runs.digest_fault.DigestFault.TheVariants.{DeviceFailed, Memory}
 use Rattle.fsverity.specs.declared.runs.file_digest.FileDigest.{FileDigest}
 use Rattle.fsverity.specs.Runs.Digested.{descriptor_of}
-use Rattle.verity_tree.specs.declared.building.BuildFault.TheVariants as build
+use Rattle.verity_pass.specs.declared.building.BuildFault.TheVariants as build
 
 -- a device with the tree of the first size bytes; an empty file has none
 abbrev pub with_tree : TreeSettingsFields → ℕ → List ℕ → List ℕ → List ℕ

@@ -1,9 +1,8 @@
 -- A run of `fsverity digest` over one file with output files (fsverity(1), "--out-merkle-tree", "--out-descriptor"):
 -- the tree, then the descriptor, then the line. Nothing that comes after the first fault is written.
 use Rattle.std.specs.Prelude.{◌≡◌, ◌↔◌, ℕ, ◌<◌, Bool, MatchBool, List, length, take, Option, Result, Ok, Err}
-use Rattle.std.specs.Prelude.{IsTrue}
+use Rattle.std.specs.Prelude.{IfErr, IsTrue}
 use Rattle.std.specs.Io.KnownBytes.{Appends, Keeps}
-use Rattle.std.specs.Borrow.{Bor}
 use Rattle.command_line.specs.Writing.{WritesText}
 use Rattle.verity_format.specs.Descriptors.{descriptor_bytes, digest_of_file}
 use Rattle.verity_io.specs.Counting.{Change, Counts, TheDevice, TheSource, failed_at}
@@ -12,16 +11,15 @@ use Rattle.verity_plan.specs.Settings.{TreeSettingsFields, digest_len}
 use Rattle.fsverity.specs.Faults.{IsTold, result_status, side_of}
 use Rattle.fsverity.specs.Runs.FileDigest.{FaultsIn, Stands, with_tree}
 use Rattle.fsverity.specs.Runs.Digested.{descriptor_of, is_too_large}
-use Rattle.verity_tree.specs.Levels.{root_of_file}
+use Rattle.verity_blocks.specs.Levels.{root_of_file}
 use Rattle.fsverity.specs.Texts.Lines.{digest_line}
 use Rattle.fsverity.specs.Texts.TextChanges.{OutputChange, WriterChange}
 use Rattle.fsverity.specs.declared.fault.Fault.{Fault}
-use Rattle.fsverity.specs.declared.fault.Fault.TheVariants as ending
+use Rattle.fsverity.specs.declared.fault.Fault.TheVariants.{Digest, Descriptor, DigestLine}
 use Rattle.fsverity.specs.declared.runs.digest_fault.DigestFault.{DigestFault}
 use Rattle.fsverity.specs.declared.runs.digest_fault.DigestFault.TheVariants.{TooLarge}
 use Rattle.fsverity.specs.declared.texts.digest_lines.Form.{Form}
-use Rattle.fsverity.specs.declared.runs.output_fault.OutputFault.{OutputFault}
-use Rattle.fsverity.specs.declared.runs.output_fault.OutputFault.TheVariants.{Digest, Descriptor, DigestLine}
+use Rattle.fsverity.specs.declared.runs.outputs.Written.{Written}
 
 -- what a run gets beside the file's bytes: the settings, the form of the line, the file's name and its size, and
 -- whether the tree and the descriptor are wanted
@@ -44,18 +42,16 @@ output_task settings form name size wants_tree wants_descriptor = record {
   wants_descriptor = wants_descriptor;
 }
 
--- how a run ends: with all written, or with its first fault
-abbrev pub Outcome : Type 0
-Outcome = Result (Unit {0}) OutputFault
-
--- the same, with the file's name beside the fault
-abbrev pub named_outcome : Bor (List ℕ) → Outcome → Result (Unit {0}) Fault
-named_outcome name (Ok unit) = Ok unit
-named_outcome name (Err fault) = Err (ending.Outputs fault name)
+-- all faults of a run over the file of this name, in the order of its steps
+abbrev pub IsOutputFault : List ℕ → Fault → Type 0
+IsOutputFault file (Digest fault name) = name.now ≡ file
+IsOutputFault file (Descriptor count) = Unit {0}
+IsOutputFault file (DigestLine fault) = Unit {0}
+IsOutputFault file other = ⊥
 
 -- the digest's part of an outcome
-abbrev pub digest_result : {X : Type 0} → Result X OutputFault → Result (Unit {0}) DigestFault
-digest_result (Err (Digest fault)) = Err fault
+abbrev pub digest_result : {X : Type 0} → Result X Fault → Result (Unit {0}) DigestFault
+digest_result (Err (Digest fault name)) = Err fault
 digest_result outcome = Ok tt
 
 -- how much was read of the source: once there is a digest, all of the file
@@ -80,12 +76,12 @@ AddsDescriptorPrefix task root count before after = MatchBool task.wants_descrip
     × Appends before after (take count (descriptor_bytes (descriptor_of task.settings task.size root)))) ⊥
 
 -- what is added to the descriptor's writer
-abbrev pub WritesDescriptor : {X : Type 0} → OutputTask → List ℕ → Result X OutputFault → Option (List ℕ)
+abbrev pub WritesDescriptor : {X : Type 0} → OutputTask → List ℕ → Result X Fault → Option (List ℕ)
     → Option (List ℕ) → Type 0
 WritesDescriptor task root (Ok done) before after = AddsDescriptor task root before after
-WritesDescriptor task root (Err (Digest fault)) before after = Keeps before after
 WritesDescriptor task root (Err (Descriptor count)) before after = AddsDescriptorPrefix task root count before after
 WritesDescriptor task root (Err (DigestLine fault)) before after = AddsDescriptor task root before after
+WritesDescriptor task root (Err other) before after = Keeps before after
 
 -- the line for this root hash
 abbrev pub digest_line_of_root : OutputTask → List ℕ → List ℕ
@@ -94,7 +90,7 @@ digest_line_of_root task root =
     task.name
 
 -- what is added to out: the line, or only its first bytes if a write fails
-abbrev pub WritesDigestLine : {X : Type 0} → OutputTask → List ℕ → Result X OutputFault → Option (List ℕ)
+abbrev pub WritesDigestLine : {X : Type 0} → OutputTask → List ℕ → Result X Fault → Option (List ℕ)
     → Option (List ℕ) → Type 0
 WritesDigestLine task root (Ok done) before after = WritesText (Ok tt) (digest_line_of_root task root) before after
 WritesDigestLine task root (Err (DigestLine fault)) before after =
@@ -103,7 +99,7 @@ WritesDigestLine task root outcome before after = Keeps before after
 
 -- the descriptor and the line have one root hash, of the settings' length; it is the file's if the source tells its
 -- bytes
-pub record WritesOutputs {X : Type 0} (task : OutputTask) (outcome : Result X OutputFault) (told : Type 0)
+pub record WritesOutputs {X : Type 0} (task : OutputTask) (outcome : Result X Fault) (told : Type 0)
     (bytes : List ℕ) (outputs : OutputChange) : Type 0 where
   pub root : List ℕ
   pub root_length : length root ≡ digest_len task.settings
@@ -113,17 +109,16 @@ pub record WritesOutputs {X : Type 0} (task : OutputTask) (outcome : Result X Ou
 
 -- a run: one outcome says what became of the source, the tree's device and the writers
 pub record OutputRun (task : OutputTask) (status : ℕ) (source tree : Change) (writers : WriterChange) : Type 0 where
-  pub outcome : Outcome
-  pub name : Bor (List ℕ)
-  pub name_is : name.now ≡ task.name
-  pub status_is : status ≡ result_status (named_outcome name outcome)
+  pub outcome : Result Written Fault
+  pub possible : IfErr outcome (IsOutputFault task.name)
+  pub status_is : status ≡ result_status outcome
   pub too_large : (digest_result outcome ≡ Err TooLarge) ↔ IsTrue (is_too_large task.settings task.size)
   pub read : source.told → Reads task (digest_result outcome) source.before source.after
   pub stands : source.told → tree.told → WritesTree task source.before (digest_result outcome) tree.before tree.after
   pub outputs_written : WritesOutputs task outcome source.told source.before writers.outputs
-  pub told : IsTold (named_outcome name outcome) writers.msgs_before writers.msgs_after
-  pub source_counted : Counts (failed_at side_of TheSource (named_outcome name outcome)) source.failures_before source.failures_after
-  pub tree_counted : Counts (failed_at side_of TheDevice (named_outcome name outcome)) tree.failures_before tree.failures_after
+  pub told : IsTold outcome writers.msgs_before writers.msgs_after
+  pub source_counted : Counts (failed_at side_of TheSource outcome) source.failures_before source.failures_after
+  pub tree_counted : Counts (failed_at side_of TheDevice outcome) tree.failures_before tree.failures_after
 
 -- what status 0 means: the file was read once, and what is wanted is written
 pub record IsWritten (task : OutputTask) (source tree : Change) (outputs : OutputChange) : Type 0 where

@@ -5,11 +5,6 @@ use Rattle.std.specs.List.{concat}
 use Rattle.std.specs.Fmt.{decimal}
 use Rattle.fsverity.specs.declared.runs.digest_fault.DigestFault.{DigestFault}
 use Rattle.fsverity.specs.declared.runs.digest_fault.DigestFault.TheVariants.{TooLarge, SourceShort, SourceFailed, DeviceFailed, Memory}
-use Rattle.fsverity.specs.declared.runs.run_fault.RunFault.{RunFault}
-use Rattle.fsverity.specs.declared.runs.run_fault.RunFault.TheVariants as run
-use Rattle.fsverity.specs.declared.runs.output_fault.OutputFault.{OutputFault}
-use Rattle.fsverity.specs.declared.runs.output_fault.OutputFault.TheVariants as output
-use Rattle.command_line.specs.declared.writing.print_fault.PrintFault.TheVariants as print
 use Rattle.fsverity.specs.declared.options.option_fault.FsOptionFault.{FsOptionFault}
 use Rattle.fsverity.specs.declared.options.option_fault.FsOptionFault.TheVariants.{UnknownHash, BadBlockSize, BadSalt, OneFileOnly}
 
@@ -36,20 +31,6 @@ digest_message (SourceFailed i) name =
 digest_message (DeviceFailed level block) name = concat
     (codes "fsverity: cannot write tree block " ∷ decimal block ∷ codes " of level " ∷ decimal level ∷ codes ".\n" ∷ [])
 digest_message Memory name = memory_message
-
--- why a run over files ended at the file of this name
-abbrev pub run_fault_message : RunFault → List ℕ → List ℕ
-run_fault_message run.Unopened name = unopened_message name
-run_fault_message (run.Digest fault) name = digest_message fault name
-run_fault_message run.DigestLineMemory name = memory_message
-run_fault_message run.DigestLineUnwritten name = unwritten_output_message
-
--- why a run with output files stopped at the file of this name
-abbrev pub output_fault_message : OutputFault → List ℕ → List ℕ
-output_fault_message (output.Digest fault) name = digest_message fault name
-output_fault_message (output.Descriptor count) name = unwritten_descriptor_message
-output_fault_message (output.DigestLine print.Memory) name = memory_message
-output_fault_message (output.DigestLine (print.Output count)) name = unwritten_output_message
 
 -- why the options are refused
 abbrev pub option_message : FsOptionFault → List ℕ

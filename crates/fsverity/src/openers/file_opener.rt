@@ -2,11 +2,10 @@
 ghost use Rattle.std.specs.Prelude.{◌≡◌, ◌≤◌, ◌+◌, ◌<◌, ℕ, List, [], Some, length, slice_get, IfOk, OnErr};
 ghost use Rattle.fsverity.specs.Openers.Opening.{CountsOpening, FailsFor, IsFileAt, SameFiles};
 
-use crate::openers::input_file::InputFile;
 use crate::openers::opener::Opener;
-use command_line::{ProgressReader, ProgressRuntime, ShownProgress, open_measured};
+use command_line::{MeasuredFile, ProgressReader, ProgressRuntime, ShownProgress, open_measured};
 use std::rt::Files;
-use verity_tree::{Failed, FileSource, Source};
+use verity_io::{Failed, FileSource, Source};
 
 /// Opens files of the system by their names, and shows the progress of reading each. It doesn't tell them.
 #[derive(Drop)]
@@ -37,7 +36,7 @@ impl<'a, R: Files + ProgressRuntime> FileOpener<'a, R> {
 }
 
 impl<'a, R: Files + ProgressRuntime> Opener for FileOpener<'a, R> {
-    type Stream = InputFile<'a, FileSource<ProgressReader<'a, R, R::File>>>;
+    type Stream = MeasuredFile<'a, FileSource<ProgressReader<'a, R, R::File>>>;
 
     ghost count = { λ o. length o.names.now };
 
@@ -56,7 +55,7 @@ impl<'a, R: Files + ProgressRuntime> Opener for FileOpener<'a, R> {
     ) -> Result<
         (
             u64,
-            InputFile<'a, FileSource<ProgressReader<'a, R, R::File>>>,
+            MeasuredFile<'a, FileSource<ProgressReader<'a, R, R::File>>>,
         ),
         Failed,
     >
@@ -64,24 +63,25 @@ impl<'a, R: Files + ProgressRuntime> Opener for FileOpener<'a, R> {
         ensures next { self.new.next ≡ self.old.next + 1 }
         ensures same { SameFiles (λ _. ⊥) (λ _. []) (λ o. length o.names.now) self.old self.new }
         ensures fresh { IfOk result (λ opened.
-            ⟦<InputFile<'a, FileSource<ProgressReader<'a, R, R::File>>> as Source>⟧.failures opened.1 ≡ 0) }
+            ⟦<MeasuredFile<'a, FileSource<ProgressReader<'a, R, R::File>>> as Source>⟧.failures opened.1 ≡ 0) }
         ensures ok { ⊥ → IfOk result (λ opened.
-            ⟦<InputFile<'a, FileSource<ProgressReader<'a, R, R::File>>> as Source>⟧.tells opened.1
+            ⟦<MeasuredFile<'a, FileSource<ProgressReader<'a, R, R::File>>> as Source>⟧.tells opened.1
             × IsFileAt [] self.old.next opened.0
-            (⟦<InputFile<'a, FileSource<ProgressReader<'a, R, R::File>>> as Source>⟧.remaining opened.1)) }
+            (⟦<MeasuredFile<'a, FileSource<ProgressReader<'a, R, R::File>>> as Source>⟧.remaining opened.1)) }
         ensures failures { CountsOpening self.old.failures self.new.failures result }
         ensures failed { OnErr result (FailsFor ⊥ [] self.old.next self.old.failures self.new.failures) }
 
         // What is opened was asked for by the next name, and has the length that was found at opening.
-        ensures named { IfOk result (λ opened. slice_get self.old.names.now self.old.next ≡ Some opened.1.name) }
+        ensures named { IfOk result (λ opened. slice_get self.old.names.now self.old.next
+            ≡ Some opened.1.opened.path) }
         ensures measured { IfOk result (λ opened. opened.0 ≡ opened.1.length) }
     {
         let name = self.names[self.next];
         self.next += 1;
         match open_measured(self.rt, name) {
             Ok(measured) => {
-                let input = InputFile::of(measured, self.progress);
-                Ok((input.length(), input))
+                let length = measured.length();
+                Ok((length, measured.into_source(length, self.progress)))
             }
             Err(_) => {
                 self.failures = self.failures.saturating_add(1);
@@ -90,7 +90,8 @@ impl<'a, R: Files + ProgressRuntime> Opener for FileOpener<'a, R> {
         }
     }
 
-    fn end(&mut self, stream: InputFile<'a, FileSource<ProgressReader<'a, R, R::File>>>) {
-        self.failures = self.failures.saturating_add(stream.failures());
+    fn end(&mut self, stream: MeasuredFile<'a, FileSource<ProgressReader<'a, R, R::File>>>) {
+        let failures = stream.opened().file().failures();
+        self.failures = self.failures.saturating_add(failures);
     }
 }

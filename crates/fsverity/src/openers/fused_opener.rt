@@ -6,7 +6,7 @@ ghost use Rattle.fsverity.specs.Openers.FusedOpeners.{opener_call, opener_failur
 ghost use Rattle.fsverity.specs.Openers.Opening.{CountsOpening, FailsFor, IsFileAt, SameFiles};
 
 use crate::openers::opener::Opener;
-use verity_tree::{Failed, Fused};
+use verity_io::{Failed, Fused};
 
 /// Opens the files of another opener, and fails one call of each of their sources. Tests run over it to see what a run
 /// does at a fault.

@@ -3,7 +3,7 @@ ghost use Rattle.std.specs.Prelude.{◌≡◌, ◌≤◌, ◌+◌, ℕ, List, ma
 ghost use Rattle.std.proofs.lemmas.List.{length-map};
 
 use crate::openers::opener::Opener;
-use verity_tree::{Failed, MemorySource};
+use verity_io::{Failed, MemorySource};
 
 /// Opens files in memory, each of them its bytes or absent. The sources borrow the bytes, so they need no memory. Only
 /// an absent file fails.

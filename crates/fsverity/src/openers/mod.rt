@@ -2,6 +2,5 @@
 
 pub(crate) mod file_opener;
 pub(crate) mod fused_opener;
-pub(crate) mod input_file;
 pub(crate) mod memory_opener;
 pub(crate) mod opener;

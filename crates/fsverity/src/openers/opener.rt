@@ -3,7 +3,7 @@ ghost use Rattle.std.specs.Prelude.{◌≡◌, ◌≤◌, ◌+◌, ◌<◌, ℕ,
 ghost use Rattle.verity_io.specs.Counting.{last_count};
 ghost use Rattle.fsverity.specs.Openers.Opening.{CountsOpening, FailsFor, IsFileAt, SameFiles};
 
-use verity_tree::{Failed, Source};
+use verity_io::{Failed, Source};
 
 /// Files that are opened for reading one after another, each once. Laws on their bytes hold if the opener tells its
 /// files, as one over memory does and one over files of the system doesn't.

@@ -6,7 +6,7 @@ ghost use Rattle.fsverity.specs.Options.Settings.{digest_settings};
 use crate::options::tree::tree_of;
 use crate::{DigestOptions, FsOptionFault};
 use command_line::{DEFAULT_BLOCK_SIZE, algorithm_or_default, number_or, read_salt};
-use verity_tree::TreeSettings;
+use verity_plan::TreeSettings;
 
 /// The settings that the options give, or the first option that is refused: the algorithm, then the block size,
 /// then the salt (Linux kernel, fs-verity page, "FS_IOC_ENABLE_VERITY"), then an output file with more than one input.

@@ -5,8 +5,7 @@ ghost use Rattle.fsverity.specs.Options.Settings.{checked_block_size, tree_of};
 
 use crate::FsOptionFault;
 use verity_hash::{Algorithm, ShortBytes};
-use verity_plan::SettingFault;
-use verity_tree::TreeSettings;
+use verity_plan::{SettingFault, TreeSettings};
 
 /// What the tree is made by, or the first fault: that fs-verity doesn't have the algorithm, the block size, or that
 /// there is no salt.

@@ -1,16 +1,16 @@
 //! What a command did.
 
-use crate::program::output_files::written_files::WrittenFiles;
-use crate::program::printed_files::PrintedFiles;
 use crate::runs::completed::Completed;
+use crate::runs::digest::Printed;
+use crate::runs::outputs::Written;
 
 /// What a command did, as the run says that did it.
 #[derive(Drop)]
 pub(crate) enum Done<'a> {
     /// Each file has its line.
-    Printed(PrintedFiles),
+    Printed(Printed),
     /// The one file has its line, and the output files are written.
-    Written(WrittenFiles<'a>),
+    Written(Written<'a>),
 }
 
 impl Completed for Done<'_> {}

@@ -5,4 +5,3 @@ pub(crate) mod done;
 pub(crate) mod entry;
 pub(crate) mod output_files;
 pub(crate) mod outputs;
-pub(crate) mod printed_files;

@@ -1,19 +1,15 @@
 //! The output files of a run.
-
-pub(crate) mod written_files;
-
 ghost use Rattle.std.specs.Prelude.{◌≡◌, ◌⊎◌, ◌||◌, None, Some, IfErr, IfOk, IfSome, OnOk, is_some};
-ghost use Rattle.std.specs.Prelude.{option_map, option_copied, string_bytes, true};
-ghost use Rattle.std.specs.Fs.{new_options, with_truncate, with_write};
-ghost use Rattle.verity_io.specs.Moving.{file_of};
+ghost use Rattle.std.specs.Prelude.{option_map, option_copied, string_bytes};
 ghost use Rattle.fsverity.specs.OutputFiles.{FoundBySystem, IsAnswer, names_of};
 
 use crate::Line;
-use command_line::{FileIdentity, Identities, are_same_file, is_folder, open_or_create, text_of};
-use std::fs::OpenOptions;
+use command_line::{
+    FileIdentity, Identities, OpenedFile, are_same_file, is_folder, open_truncated, text_of,
+};
 use std::io::{Read, Seek, Write};
 use std::rt::Files;
-use verity_tree::FileDevice;
+use verity_io::FileDevice;
 
 /// The names of the output files; `None` if one is not given.
 #[derive(Clone, Copy)]
@@ -42,32 +38,11 @@ impl<'a> OutputNames<'a> {
     }
 }
 
-/// An output file, or the device over it, with the name that the file was asked for by. Only this module makes one, and
-/// nobody else puts another file in its place.
-#[derive(Drop)]
-pub(crate) struct OutputFile<'a, F> {
-    name: &'a str,
-    file: F,
-}
-
-impl<'a, F: Read + Write + Seek> OutputFile<'a, F> {
-    /// The device over the file.
-    fn into_device(self) -> OutputFile<'a, FileDevice<F>>
-        ensures name { result.name ≡ self.entry.name }
-        ensures file { file_of result.file ≡ self.entry.file }
-    {
-        OutputFile {
-            name: self.name,
-            file: FileDevice::new(self.file),
-        }
-    }
-}
-
 /// The output files; `None` for one that is not named. What was opened last is closed first.
 #[derive(Drop)]
 pub(crate) struct OutputFiles<'a, D, W> {
-    descriptor: Option<OutputFile<'a, W>>,
-    tree: Option<OutputFile<'a, D>>,
+    pub descriptor: Option<OpenedFile<'a, W>>,
+    pub tree: Option<OpenedFile<'a, D>>,
 }
 
 impl<'a, D, W> OutputFiles<'a, D, W> {
@@ -83,11 +58,11 @@ impl<'a, D, W> OutputFiles<'a, D, W> {
 }
 
 /// The name of an output file, if there is one.
-fn name_of<'a, F>(file: &Option<OutputFile<'a, F>>) -> Option<&'a str>
-    ensures { result ≡ option_map (λ f. f.name) file.now }
+fn name_of<'a, F>(file: &Option<OpenedFile<'a, F>>) -> Option<&'a str>
+    ensures { result ≡ option_map (λ f. f.path) file.now }
 {
     match file {
-        Some(file) => Some(file.name),
+        Some(file) => Some(file.path()),
         None => None,
     }
 }
@@ -115,7 +90,7 @@ impl<'a, F: Read + Write + Seek + Drop> OutputFiles<'a, FileDevice<F>, F> {
         let tree = open_output(rt, names.tree)?;
         // The file exists now, so the system can say whether the other name leads to it too.
         if let (Some(file), Some(name)) = (&tree, names.descriptor)
-            && are_same_file(rt.file_identity(&file.file), rt.path_identity(name))
+            && are_same_file(rt.file_identity(file.file()), rt.path_identity(name))
         {
             return Err(name);
         }
@@ -180,9 +155,9 @@ fn identity_of<R: Identities>(rt: &R, name: Option<&str>) -> Option<FileIdentity
 
 /// The device over an output file, if there is one.
 fn over_device<F: Read + Write + Seek>(
-    file: Option<OutputFile<'_, F>>,
-) -> Option<OutputFile<'_, FileDevice<F>>>
-    ensures { option_map (λ f. f.name) result ≡ option_map (λ f. f.name) file.entry }
+    file: Option<OpenedFile<'_, F>>,
+) -> Option<OpenedFile<'_, FileDevice<F>>>
+    ensures { option_map (λ f. f.path) result ≡ option_map (λ f. f.path) file.entry }
 {
     match file {
         Some(file) => Some(file.into_device()),
@@ -194,24 +169,15 @@ fn over_device<F: Read + Write + Seek>(
 fn open_output<'a, R: Files>(
     rt: &R,
     name: Option<&'a str>,
-) -> Result<Option<OutputFile<'a, R::File>>, &'a str>
-    ensures named { IfOk result (λ file. option_map (λ f. f.name) file ≡ name.entry) }
+) -> Result<Option<OpenedFile<'a, R::File>>, &'a str>
+    ensures named { IfOk result (λ file. option_map (λ f. f.path) file ≡ name.entry) }
     ensures error { IfErr result (λ refused. name.entry ≡ Some refused) }
 {
     match name {
         None => Ok(None),
-        Some(name) => match open_or_create(rt, output_options(), name) {
-            Ok(file) => Ok(Some(OutputFile { name, file })),
+        Some(name) => match open_truncated(rt, name) {
+            Ok(opened) => Ok(Some(opened)),
             Err(_) => Err(name),
         },
     }
-}
-
-/// The options for writing a file that is truncated.
-fn output_options() -> OpenOptions
-    ensures { result ≡ with_truncate (with_write new_options true) true }
-{
-    let mut options = OpenOptions::new();
-    options.write(true).truncate(true);
-    options
 }

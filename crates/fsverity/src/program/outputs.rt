@@ -7,13 +7,12 @@ ghost use Rattle.fsverity.specs.Program.{PrintsDigestLines};
 
 use crate::Form;
 use crate::fault::Fault;
-use crate::openers::input_file::InputFile;
-use crate::program::output_files::written_files::{WrittenFiles, write_to_files};
 use crate::program::output_files::{OutputFiles, OutputNames};
-use crate::runs::run_fault::RunFault;
+use crate::runs::outputs::Written;
+use crate::runs::outputs::over_files::write_to_files;
 use command_line::{Identities, ProgressRuntime, ShownProgress, open_measured};
 use std::io::Write;
-use verity_tree::TreeSettings;
+use verity_plan::TreeSettings;
 
 /// What a command line with output files asks for.
 #[derive(Clone, Copy)]
@@ -32,7 +31,7 @@ pub(crate) fn digest_with_outputs<'a, R: Identities + ProgressRuntime + AllocGlo
     settings: &TreeSettings,
     request: OutputRequest<'a>,
     out: &mut O,
-) -> Result<WrittenFiles<'a>, Fault<'a>>
+) -> Result<Written<'a>, Fault<'a>>
     requires { settings.now.rule ≡ PaddedBefore }
     ensures failed { IfErr result (λ fault. status_of fault ≡ status_failed) }
     ensures value { IfOk result (SaysWritten settings.now request.entry) }
@@ -46,18 +45,16 @@ pub(crate) fn digest_with_outputs<'a, R: Identities + ProgressRuntime + AllocGlo
     } = request;
     let measured = match open_measured(rt, name) {
         Ok(measured) => measured,
-        Err(_) => return Err(Fault::File(RunFault::Unopened, name)),
+        Err(_) => return Err(Fault::Unopened(name)),
     };
     let mut files = match OutputFiles::open(rt, measured.opened().file(), outputs) {
         Ok(files) => files,
-        Err(refused) => return Err(Fault::File(RunFault::Unopened, refused)),
+        Err(refused) => return Err(Fault::Unopened(refused)),
     };
-    let mut input = InputFile::of(measured, progress);
+    let length = measured.length();
+    let mut input = measured.into_source(length, progress);
     let outcome = write_to_files(rt.alloc(), settings, form, &mut input, &mut files, out);
     // What was opened last is closed first.
     drop(files);
-    match outcome {
-        Ok(written) => Ok(written),
-        Err(fault) => Err(Fault::Outputs(fault, name)),
-    }
+    outcome
 }

@@ -1,28 +1,28 @@
 //! A run over files, one after another.
-ghost use Rattle.std.specs.Prelude.{◌≡◌, ◌≢◌, ◌⊎◌, ℕ, ◌+◌, ◌<◌, ◌≤◌, List, length, map, IfOk, IfErr, OnOk, MatchResult};
+ghost use Rattle.std.specs.Prelude.{◌≡◌, ◌⊎◌, ℕ, ◌+◌, ◌<◌, ◌≤◌, List, length, map, IfOk, IfErr, OnOk, MatchResult};
 ghost use Rattle.std.specs.Io.KnownBytes.{Appends};
 ghost use Rattle.verity_hash.specs.declared.salting.SaltRule.TheVariants.{PaddedBefore};
 ghost use Rattle.verity_plan.specs.Settings.{digest_len};
 ghost use Rattle.fsverity.specs.Openers.Opening.{SameFiles, opener_change};
 ghost use Rattle.fsverity.specs.Runs.Digest.{CountsFault, EndsAt, first_without_digest};
 ghost use Rattle.fsverity.specs.Runs.Digested.{AreDigestLines, IsDigestAt};
-ghost use Rattle.fsverity.specs.Faults.{status_failed, status_of};
-ghost use Rattle.fsverity.specs.Runs.DigestSteps.{StopsRun, StopsStep, WritesStep};
+ghost use Rattle.fsverity.specs.Faults.{IsAtFile, status_failed, status_of};
+ghost use Rattle.fsverity.specs.Program.{PrintsDigestLines};
+ghost use Rattle.fsverity.specs.Runs.DigestSteps.{ComesBeforeLine, StopsRun, StopsStep, WritesStep};
 ghost use Rattle.fsverity.specs.Texts.Lines.{digest_line};
-ghost use Rattle.fsverity.specs.declared.runs.run_fault.RunFault.TheVariants.{DigestLineUnwritten};
 
 use crate::fault::{Fault, end_run};
 use crate::runs::completed::Completed;
-use crate::runs::run_fault::RunFault;
 use crate::texts::digest_line_writing::write_digest_line;
-use crate::{FileDigest, Form, Opener, digest_file};
-use command_line::PrintFault;
+use crate::{FileDigest, FileOpener, Form, Opener, digest_file};
+use command_line::{ProgressRuntime, ShownProgress};
 use std::alloc::Global;
 use std::io::Write;
-use verity_tree::TreeSettings;
+use std::rt::Files;
+use verity_plan::TreeSettings;
 
 /// The lines of all files of a run are written: so many, by these settings and in this form. Only `write_digest_lines`
-/// makes one.
+/// makes one, and for the program only `digest_files` gives one out.
 #[derive(Drop)]
 pub(crate) struct Printed {
     settings: TreeSettings,
@@ -32,12 +32,13 @@ pub(crate) struct Printed {
 
 impl Completed for Printed {}
 
-/// The digest of the opener's next file.
-fn next_digest<O: Opener>(
+/// The digest of the opener's next file, whose name is given.
+fn next_digest<'a, O: Opener>(
     alloc: Global,
     settings: &TreeSettings,
+    name: &'a str,
     opener: &mut O,
-) -> Result<FileDigest, RunFault>
+) -> Result<FileDigest, Fault<'a>>
     requires settings { settings.now.rule ≡ PaddedBefore }
     requires more { O.next opener.old < O.count opener.old }
     ensures next { O.next opener.new ≡ O.next opener.old + 1 }
@@ -50,30 +51,33 @@ fn next_digest<O: Opener>(
     ensures length { IfOk result (λ made. length made.digest ≡ digest_len settings.now) }
     ensures digest { IfOk result (λ made. IsDigestAt settings.now (O.tells opener.old) (O.files opener.old)
         (O.next opener.old) made.digest) }
-    ensures unwritten { IfErr result (λ fault. fault ≢ DigestLineUnwritten) }
+    ensures at_file { IfErr result (IsAtFile name.now) }
+    ensures failed { IfErr result (λ fault. status_of fault ≡ status_failed) }
+    ensures early { IfErr result ComesBeforeLine }
 {
     match opener.start() {
-        Err(_) => Err(RunFault::Unopened),
+        Err(_) => Err(Fault::Unopened(name)),
         Ok((length, mut stream)) => {
             let made = digest_file(alloc, settings, length, &mut stream);
             opener.end(stream);
             match made {
                 Ok(made) => Ok(made),
-                Err(fault) => Err(RunFault::Digest(fault)),
+                Err(fault) => Err(Fault::Digest(fault, name)),
             }
         }
     }
 }
 
 /// Writes the line of the opener's next file.
-fn write_next_digest_line<O: Opener, W: Write>(
+#[tactic(auto, using(crate::proofs::RunLemmas::wrote_nothing))]
+fn write_next_digest_line<'a, O: Opener, W: Write>(
     alloc: Global,
     settings: &TreeSettings,
     form: Form,
-    name: &str,
+    name: &'a str,
     opener: &mut O,
     out: &mut W,
-) -> Result<(), RunFault>
+) -> Result<(), Fault<'a>>
     requires settings { settings.now.rule ≡ PaddedBefore }
     requires more { O.next opener.old < O.count opener.old }
     ensures next { O.next opener.new ≡ O.next opener.old + 1 }
@@ -85,18 +89,22 @@ fn write_next_digest_line<O: Opener, W: Write>(
         (λ fault. CountsFault fault (O.failures opener.old) (O.failures opener.new)) }
     ensures written { WritesStep settings.now (λ digest. digest_line form settings.now.algorithm digest name.now)
         (O.tells opener.old) (O.files opener.old) (O.next opener.old) result (W.contents out.old) (W.contents out.new) }
+    ensures at_file { IfErr result (IsAtFile name.now) }
+    ensures failed { IfErr result (λ fault. status_of fault ≡ status_failed) }
 {
-    let made = next_digest(alloc, settings, opener)?;
+    let made = match next_digest(alloc, settings, name, opener) {
+        Ok(made) => made,
+        Err(fault) => return Err(fault),
+    };
     match write_digest_line(alloc, settings, form, name, &made, out) {
         Ok(()) => Ok(()),
-        Err(PrintFault::Memory) => Err(RunFault::DigestLineMemory),
-        Err(PrintFault::Output(_)) => Err(RunFault::DigestLineUnwritten),
+        Err(fault) => Err(Fault::DigestLine(fault)),
     }
 }
 
 /// Writes the line of each file to `out`, in the order of their names, up to the first file that fails: the fault names
 /// it.
-pub(crate) fn write_digest_lines<'a, O: Opener, W: Write>(
+fn write_digest_lines<'a, O: Opener, W: Write>(
     alloc: Global,
     settings: &TreeSettings,
     form: Form,
@@ -126,7 +134,7 @@ pub(crate) fn write_digest_lines<'a, O: Opener, W: Write>(
     for name in names {
         match write_next_digest_line(alloc, settings, form, name, opener, out) {
             Ok(()) => {}
-            Err(fault) => return Err(Fault::File(fault, name)),
+            Err(fault) => return Err(fault),
         }
     }
     Ok(Printed {
@@ -134,6 +142,27 @@ pub(crate) fn write_digest_lines<'a, O: Opener, W: Write>(
         form,
         lines: names.len(),
     })
+}
+
+/// Writes the line of each file of these names, which are opened one after another.
+pub(crate) fn digest_files<'a, R: Files + ProgressRuntime + AllocGlobal, O: Write>(
+    rt: &R,
+    progress: &ShownProgress<'_, R>,
+    settings: &TreeSettings,
+    form: Form,
+    names: &[&'a str],
+    out: &mut O,
+) -> Result<Printed, Fault<'a>>
+    requires { settings.now.rule ≡ PaddedBefore }
+    ensures failed { IfErr result (λ fault. status_of fault ≡ status_failed) }
+    ensures printed { OnOk result (PrintsDigestLines settings.now form (map (λ n. n.now) names.now)
+        (O.contents out.old) (O.contents out.new)) }
+    ensures value { IfOk result (λ done. (done.settings ≡ settings.now) × (done.form ≡ form)
+        × (done.lines ≡ length names.now)) }
+{
+    // Lent again, since the opener needs the names for a shorter time than a fault does.
+    let mut opener = FileOpener::new(rt, progress, &*names);
+    write_digest_lines(rt.alloc(), settings, form, names, &mut opener, out)
 }
 
 /// Writes the line of each file to `out`, in the order of their names (fsverity(1), "fsverity digest"). The status is 0

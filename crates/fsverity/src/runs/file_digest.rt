@@ -13,7 +13,9 @@ use crate::DigestFault;
 use std::alloc::Global;
 use verity_format::{Descriptor, file_digest, write_descriptor};
 use verity_hash::Digest;
-use verity_tree::{BuildFault, Device, Nowhere, Plan, Source, Store, TreeSettings, build};
+use verity_io::{Device, Nowhere, Source};
+use verity_pass::{BuildFault, Store, build};
+use verity_plan::{Plan, TreeSettings};
 
 /// The digest of a file, and the descriptor that it is the hash of.
 #[derive(Clone, Copy, Debug, PartialEq, Eq)]

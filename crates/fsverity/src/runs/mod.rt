@@ -4,6 +4,4 @@ pub(crate) mod completed;
 pub(crate) mod digest;
 pub(crate) mod digest_fault;
 pub(crate) mod file_digest;
-pub(crate) mod output_fault;
 pub(crate) mod outputs;
-pub(crate) mod run_fault;

@@ -1,26 +1,29 @@
 //! A run over one file with output files.
-ghost use Rattle.std.specs.Prelude.{◌≡◌, ◌↔◌, ◌⊎◌, length, false, IfOk, IsTrue};
+
+pub(crate) mod over_files;
+
+ghost use Rattle.std.specs.Prelude.{◌≡◌, ◌↔◌, ◌⊎◌, length, false, IfErr, IfOk, IsTrue, OnOk};
 ghost use Rattle.verity_hash.specs.declared.salting.SaltRule.TheVariants.{PaddedBefore};
 ghost use Rattle.verity_plan.specs.Settings.{digest_len};
 ghost use Rattle.verity_io.specs.Counting.{Counts, TheDevice, TheSource, change, failed_at};
-ghost use Rattle.fsverity.specs.Faults.{output_side};
+ghost use Rattle.fsverity.specs.Faults as faults;
 ghost use Rattle.fsverity.specs.Runs.FileDigest.{GivesDigest, IsDigestOfSource, side_of};
 ghost use Rattle.fsverity.specs.Runs.Digested.{is_too_large};
-ghost use Rattle.fsverity.specs.Runs.Outputs.{IsWritten, OutputRun, Reads, WritesOutputs, WritesTree, digest_result};
-ghost use Rattle.fsverity.specs.Runs.Outputs.{output_task};
+ghost use Rattle.fsverity.specs.Runs.Outputs.{IsOutputFault, IsWritten, OutputRun, Reads, WritesOutputs, WritesTree};
+ghost use Rattle.fsverity.specs.Runs.Outputs.{digest_result, output_task};
 ghost use Rattle.fsverity.specs.Texts.TextChanges.{output_change};
 ghost use Rattle.fsverity.specs.Runs.OutputSteps.{WritesIfWanted, task_of};
 ghost use Rattle.fsverity.specs.declared.runs.digest_fault.DigestFault.TheVariants.{TooLarge};
 
 use crate::fault::{Fault, end_run};
+use crate::program::output_files::OutputNames;
 use crate::runs::completed::Completed;
-use crate::runs::output_fault::OutputFault;
 use crate::texts::digest_line_writing::write_digest_line;
 use crate::{DigestFault, FileDigest, Form, digest_file, digest_file_with_tree};
 use std::alloc::Global;
 use std::io::Write;
-use verity_io::{PutFault, put_all};
-use verity_tree::{Device, Source, TreeSettings};
+use verity_io::{Device, PutFault, Source, put_all};
+use verity_plan::TreeSettings;
 
 /// What a run is asked for: the digest and the line of a file, and its tree and its descriptor if they are wanted.
 #[derive(Drop)]
@@ -49,10 +52,12 @@ impl<'a> OutputTask<'a> {
     }
 }
 
-/// All that a task asks for is written. Only `write_outputs` makes one.
+/// All that a task asks for is written, to the output files of these names if they are files of the system. Only
+/// `write_outputs` makes one, and for the program only `write_to_files` gives one out.
 #[derive(Drop)]
 pub(crate) struct Written<'a> {
     task: OutputTask<'a>,
+    names: OutputNames<'a>,
 }
 
 impl Completed for Written<'_> {}
@@ -104,14 +109,15 @@ fn write_descriptor_to<W: Write>(
 }
 
 /// Writes the tree, the descriptor and the line of a file, in this order, up to the first fault.
-pub(crate) fn write_outputs<'a, S: Source, D: Device, W: Write, O: Write>(
+fn write_outputs<'a, S: Source, D: Device, W: Write, O: Write>(
     alloc: Global,
     task: &OutputTask<'a>,
+    names: OutputNames<'a>,
     source: &mut S,
     tree: &mut D,
     descriptor: &mut W,
     out: &mut O,
-) -> Result<Written<'a>, OutputFault>
+) -> Result<Written<'a>, Fault<'a>>
     requires { task.now.settings.rule ≡ PaddedBefore }
     ensures source_told { S.tells source.old → S.tells source.new }
     ensures tree_told { D.tells tree.old → D.tells tree.new }
@@ -126,23 +132,30 @@ pub(crate) fn write_outputs<'a, S: Source, D: Device, W: Write, O: Write>(
         (D.content tree.old) (D.content tree.new) }
     ensures written { WritesOutputs (task_of task.now) result (S.tells source.old) (S.remaining source.old)
         (output_change W.contents O.contents descriptor.old descriptor.new out.old out.new) }
-    ensures value { IfOk result (λ written. written.task ≡ task.now) }
-    ensures source_count { Counts (failed_at output_side TheSource result) (S.failures source.old) (S.failures source.new) }
-    ensures tree_count { Counts (failed_at output_side TheDevice result) (D.failures tree.old) (D.failures tree.new) }
+    ensures all { OnOk result (S.tells source.old → IsWritten (task_of task.now)
+        (change S.tells S.remaining S.failures source.old source.new)
+        (change D.tells D.content D.failures tree.old tree.new)
+        (output_change W.contents O.contents descriptor.old descriptor.new out.old out.new)) }
+    ensures value { IfOk result (λ written. (written.task ≡ task.now) × (written.names ≡ names.entry)) }
+    ensures possible { IfErr result (IsOutputFault task.now.name.now) }
+    ensures failed { IfErr result (λ fault. faults.status_of fault ≡ faults.status_failed) }
+    ensures source_count { Counts (failed_at faults.side_of TheSource result) (S.failures source.old) (S.failures source.new) }
+    ensures tree_count { Counts (failed_at faults.side_of TheDevice result) (D.failures tree.old) (D.failures tree.new) }
 {
     let made = match digest_for_task(alloc, task, source, tree) {
         Ok(made) => made,
-        Err(fault) => return Err(OutputFault::Digest(fault)),
+        Err(fault) => return Err(Fault::Digest(fault, task.name)),
     };
     match write_descriptor_to(&made, task.wants_descriptor, descriptor) {
         Ok(()) => {}
-        Err(PutFault(count)) => return Err(OutputFault::Descriptor(count)),
+        Err(PutFault(count)) => return Err(Fault::Descriptor(count)),
     }
     match write_digest_line(alloc, &task.settings, task.form, task.name, &made, out) {
         Ok(()) => Ok(Written {
             task: task.copied(),
+            names,
         }),
-        Err(fault) => Err(OutputFault::DigestLine(fault)),
+        Err(fault) => Err(Fault::DigestLine(fault)),
     }
 }
 
@@ -201,11 +214,10 @@ pub fn run_digest_to<S: Source, D: Device, W: Write, O: Write, M: Write>(
         wants_tree: want_tree,
         wants_descriptor: want_descriptor,
     };
-    match write_outputs(alloc, &task, source, tree, descriptor, out) {
-        Ok(written) => end_run(alloc, Ok(written), msgs),
-        Err(fault) => {
-            let failed: Result<Written<'_>, Fault<'_>> = Err(Fault::Outputs(fault, name));
-            end_run(alloc, failed, msgs)
-        }
-    }
+    let names = OutputNames {
+        tree: None,
+        descriptor: None,
+    };
+    let outcome = write_outputs(alloc, &task, names, source, tree, descriptor, out);
+    end_run(alloc, outcome, msgs)
 }

@@ -9,7 +9,7 @@ use crate::{FileDigest, Form, digest_line};
 use command_line::{PrintFault, write_whole};
 use std::alloc::Global;
 use std::io::Write;
-use verity_tree::TreeSettings;
+use verity_plan::TreeSettings;
 
 /// Writes the digest line of a file, which is made whole first.
 pub(crate) fn write_digest_line<W: Write>(

@@ -1,7 +1,7 @@
 -- How a command ends if it refuses an option of its line, or data that ends too soon.
 -- For the private functions; not needed to read a public contract.
 use Rattle.std.specs.Prelude.{◌≡◌, ℕ, Result, Err, option_map, string_bytes}
-use Rattle.verity_tree.specs.declared.building.BuildFault.TheVariants as build
+use Rattle.verity_pass.specs.declared.building.BuildFault.TheVariants as build
 use Rattle.veritysetup.specs.Options.Choices.{offset_of}
 use Rattle.veritysetup.specs.declared.fault.Fault.{Fault}
 use Rattle.veritysetup.specs.declared.fault.Fault.TheVariants as fault

@@ -11,9 +11,9 @@ use Rattle.veritysetup.specs.Program.Refusals.{line_offset}
 use Rattle.veritysetup.specs.Words.RawWords.{root_word}
 use Rattle.veritysetup.specs.declared.program.done.Done.{Done}
 use Rattle.veritysetup.specs.declared.program.done.Done.TheVariants as done
-use Rattle.veritysetup.specs.declared.program.dumped_file.DumpedFile.{DumpedFile}
-use Rattle.veritysetup.specs.declared.program.formatted_files.FormattedFiles.{FormattedFiles}
-use Rattle.veritysetup.specs.declared.program.verified_files.VerifiedFiles.{VerifiedFiles}
+use Rattle.veritysetup.specs.declared.runs.dump.Dumped.{Dumped}
+use Rattle.veritysetup.specs.declared.runs.file_names.FileNames.{FileNames}
+use Rattle.veritysetup.specs.declared.runs.format.Formatted.{Formatted}
 use Rattle.veritysetup.specs.declared.runs.verify.Verified.{Verified}
 use Rattle.veritysetup.specs.declared.words.command_name.CommandName.TheVariants.{Format, Dump, Verify}
 use Rattle.veritysetup.specs.declared.words.line.Line.{Line}
@@ -35,49 +35,49 @@ line_texts line same_file = record {
 }
 
 -- a device is verified by the superblock at this offset and the text of a root hash
-abbrev pub IsByStored : List ℕ → Verified → ℕ → Type 0
+abbrev pub IsByStored : List ℕ → Verified FileNames → ℕ → Type 0
 IsByStored root verified offset = (verified.offset ≡ Some offset)
     × (read_root verified.tree.plan.settings.algorithm root ≡ Some verified.tree.root)
 
 -- or by settings, and no superblock
-abbrev pub IsBySettings : Verified → SettingsFields → Type 0
+abbrev pub IsBySettings : Verified FileNames → SettingsFields → Type 0
 IsBySettings verified s = (verified.offset ≡ None) × (verified.tree.plan ≡ s.plan) × (s.root ≡ Some verified.tree.root)
 
 -- files are verified by a line and the text of a root hash: by the superblock at the line's offset, or, without one, by
 -- the settings that the line chooses for the length of DATA
-pub record IsVerifiedByLine (line : Line) (root : List ℕ) (files : VerifiedFiles) : Type 0 where
-  pub stored : line.no_superblock ≡ false → IsOkAnd (line_offset line) (IsByStored root files.verified)
+pub record IsVerifiedByLine (line : Line) (root : List ℕ) (verified : Verified FileNames) : Type 0 where
+  pub stored : line.no_superblock ≡ false → IsOkAnd (line_offset line) (IsByStored root verified)
   pub given : line.no_superblock ≡ true
-      → IsOkAnd (settings_of (line_texts line false) files.length None) (IsBySettings files.verified)
+      → IsOkAnd (settings_of (line_texts line false) verified.files.length None) (IsBySettings verified)
 
 -- files are formatted by the settings that a line chooses for the length of DATA, with random bytes that are drawn if
 -- salt or UUID is missing; DATA and HASH are one file as their paths and the system's answers say. `FileIs` and
 -- `PathIs` say which answers the system may give of an opened file and of a path, `IsDrawn` which bytes may be drawn
 pub record IsFormattedByLine (FileIs : Option FileIdentity → Type 0) (PathIs : List ℕ → Option FileIdentity → Type 0)
-    (IsDrawn : List ℕ → Type 0) (line : Line) (files : FormattedFiles) : Type 0 where
+    (IsDrawn : List ℕ → Type 0) (line : Line) (made : Formatted FileNames) : Type 0 where
   pub opened : Option FileIdentity
   pub opened_is : FileIs opened
   pub other : Option FileIdentity
-  pub other_is : PathIs files.hash.now other
+  pub other_is : PathIs made.files.hash.now other
   pub same_file : Bool
-  pub same : IsTrue same_file ↔ PathsAreSameFile files.data.now files.hash.now opened other
+  pub same : IsTrue same_file ↔ PathsAreSameFile made.files.data.now made.files.hash.now opened other
   pub random : Option (List ℕ)
   pub missing : is_some random ≡ not (is_some line.salt && is_some line.uuid)
   pub drawn : IfSome random IsDrawn
-  pub chosen : settings_of (line_texts line same_file) files.length random ≡ Ok files.formatted.settings
+  pub chosen : settings_of (line_texts line same_file) made.files.length random ≡ Ok made.settings
 
 -- a file is dumped by a line
-abbrev pub IsDumpedByLine : Line → DumpedFile → Type 0
-IsDumpedByLine line file = line_offset line ≡ Ok file.dumped.offset
+abbrev pub IsDumpedByLine : Line → Dumped → Type 0
+IsDumpedByLine line dumped = line_offset line ≡ Ok dumped.offset
 
 -- what was done is the line's command, by the line, over the files that it names
 abbrev pub IsDone : (Option FileIdentity → Type 0) → (List ℕ → Option FileIdentity → Type 0) → (List ℕ → Type 0) → Line
     → Done → Type 0
-IsDone FileIs PathIs IsDrawn line (done.Formatted files) = (line.command ≡ Format)
-    × IsFormattedByLine FileIs PathIs IsDrawn line files
-    × (map string_bytes line.files.items ≡ files.data.now ∷ files.hash.now ∷ [])
-IsDone FileIs PathIs IsDrawn line (done.Dumped file) = (line.command ≡ Dump) × IsDumpedByLine line file
-    × (map string_bytes line.files.items ≡ file.hash.now ∷ [])
-IsDone FileIs PathIs IsDrawn line (done.Verified files) = (line.command ≡ Verify) × ((root : List ℕ)
-    × IsVerifiedByLine line root files
-    × (map string_bytes line.files.items ≡ files.data.now ∷ files.hash.now ∷ root ∷ []))
+IsDone FileIs PathIs IsDrawn line (done.Formatted made synced) = (line.command ≡ Format)
+    × IsFormattedByLine FileIs PathIs IsDrawn line made
+    × (map string_bytes line.files.items ≡ made.files.data.now ∷ made.files.hash.now ∷ [])
+IsDone FileIs PathIs IsDrawn line (done.Dumped dumped) = (line.command ≡ Dump) × IsDumpedByLine line dumped
+    × (map string_bytes line.files.items ≡ dumped.hash.now ∷ [])
+IsDone FileIs PathIs IsDrawn line (done.Verified verified) = (line.command ≡ Verify) × ((root : List ℕ)
+    × IsVerifiedByLine line root verified
+    × (map string_bytes line.files.items ≡ verified.files.data.now ∷ verified.files.hash.now ∷ root ∷ []))

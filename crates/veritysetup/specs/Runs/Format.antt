@@ -5,10 +5,10 @@ use Rattle.std.specs.Io.KnownBytes.{Appends, Keeps}
 use Rattle.verity_io.specs.Counting.{Change, Counts, TheDevice, TheSource, failed_at}
 use Rattle.verity_io.specs.Writing.{put, Spoiled}
 use Rattle.verity_plan.specs.Plans.{superblock_size}
-use Rattle.verity_tree.specs.Building.{Builds, BuildsOnDevice}
+use Rattle.verity_pass.specs.Building.{Builds, BuildsOnDevice}
 use Rattle.verity_io.specs.Reading.{HasRead}
-use Rattle.verity_tree.specs.TreeWriting.{tree_on_device}
-use Rattle.verity_tree.specs.Levels.{data_blocks}
+use Rattle.verity_blocks.specs.TreeWriting.{tree_on_device}
+use Rattle.verity_blocks.specs.Levels.{data_blocks}
 use Rattle.veritysetup.specs.Faults.{IsTold, result_status, side_of}
 use Rattle.veritysetup.specs.Options.Settings.{SettingsFields}
 use Rattle.veritysetup.specs.Runs.HashDevice.{superblock_for}
@@ -16,7 +16,7 @@ use Rattle.veritysetup.specs.Texts.TextChanges.{TextChange}
 use Rattle.command_line.specs.Writing.{WritesText}
 use Rattle.veritysetup.specs.declared.fault.Fault.{Fault}
 use Rattle.veritysetup.specs.declared.fault.Fault.TheVariants as fault
-use Rattle.veritysetup.specs.declared.runs.format.Formatted.{Formatted}
+use Rattle.veritysetup.specs.declared.runs.format.Formatted.{Formatted as FormattedOver}
 use Rattle.veritysetup.specs.Runs.Formatted.{root_above, format_report}
 use Rattle.verity_format.specs.Superblocks.{superblock_bytes}
 
@@ -50,6 +50,10 @@ PrintsReport report (Err fault.Store) before after = Keeps before after
 PrintsReport report (Err (fault.Build cause)) before after = Keeps before after
 PrintsReport report (Err fault.SuperblockUnwritten) before after = Keeps before after
 PrintsReport report (Err other) before after = ⊥
+
+-- what a run over any source and device answers when all is done: it names no files
+abbrev pub Formatted : Type 0
+Formatted = FormattedOver (Unit {0})
 
 -- a run: one outcome says what became of the source, the device and the writers
 pub record FormatRun (s : SettingsFields) (path : List ℕ) (status : ℕ) (source device : Change) (texts : TextChange)

@@ -6,8 +6,8 @@ use Rattle.std.specs.Io.KnownBytes.{Appends}
 use Rattle.verity_io.specs.Reading.{HasRead}
 use Rattle.verity_format.specs.Superblocks.{superblock_bytes}
 use Rattle.verity_plan.specs.Plans.{end_place_of, superblock_size}
-use Rattle.verity_tree.specs.Levels.{data_blocks, root}
-use Rattle.verity_tree.specs.TreeOnDevice.{HoldsTree}
+use Rattle.verity_blocks.specs.Levels.{data_blocks, root}
+use Rattle.verity_blocks.specs.TreeOnDevice.{HoldsTree}
 use Rattle.veritysetup.specs.Options.Settings.{SettingsFields}
 use Rattle.veritysetup.specs.Runs.HashDevice.{superblock_at, superblock_for}
 use Rattle.veritysetup.specs.Texts.Reports.{no_uuid_text, report_text, uuid_text}

@@ -3,7 +3,7 @@ use Rattle.std.specs.Prelude.{◌≡◌, ℕ, true, List, Some, Ok}
 use Rattle.verity_format.specs.Superblocks.{SuperblockFields, IsSuperblock}
 use Rattle.verity_io.specs.Reading.{HasRead}
 use Rattle.verity_plan.specs.Plans.{PlanFields, plan_at}
-use Rattle.verity_tree.specs.TreeOnDevice.{HoldsTree}
+use Rattle.verity_blocks.specs.TreeOnDevice.{HoldsTree}
 use Rattle.veritysetup.specs.Options.Settings.{read_root}
 use Rattle.veritysetup.specs.Runs.HashDevice.{superblock_at}
 use Rattle.veritysetup.specs.declared.runs.verify_input.VerifyInput.{VerifyInput}

@@ -4,8 +4,8 @@ use Rattle.verity_format.specs.Superblocks.{SuperblockFields, IsSuperblock}
 use Rattle.verity_io.specs.Counting.{Change, Counts, TheDevice, TheSource, failed_at}
 use Rattle.verity_plan.specs.Plans.{PlanFields, plan_at}
 use Rattle.verity_plan.specs.declared.plan_fault.PlanFault.{PlanFault}
-use Rattle.verity_tree.specs.Comparing.{CompareReads, Judges}
-use Rattle.verity_tree.specs.declared.comparing.CompareFault.{CompareFault}
+use Rattle.verity_pass.specs.Comparing.{CompareReads, Judges}
+use Rattle.verity_pass.specs.declared.comparing.CompareFault.{CompareFault}
 use Rattle.veritysetup.specs.Faults.{IsTold, result_status, side_of}
 use Rattle.veritysetup.specs.Options.Settings.{read_root}
 use Rattle.veritysetup.specs.Runs.HashDevice.{superblock_at}
@@ -13,7 +13,7 @@ use Rattle.veritysetup.specs.Runs.StoredSuperblock.{IsSuperblockFault, ReadsSupe
 use Rattle.veritysetup.specs.declared.fault.Fault.{Fault}
 use Rattle.veritysetup.specs.declared.fault.Fault.TheVariants as fault
 use Rattle.veritysetup.specs.declared.options.option_fault.OptionFault.TheVariants as option
-use Rattle.veritysetup.specs.declared.runs.verify.Verified.{Verified}
+use Rattle.veritysetup.specs.declared.runs.verify.Verified.{Verified as VerifiedOver}
 use Rattle.veritysetup.specs.declared.runs.verify_input.VerifyInput.{VerifyInput}
 use Rattle.veritysetup.specs.declared.runs.verify_input.VerifyInput.TheVariants.{Stored, Given}
 use Rattle.veritysetup.specs.Runs.Verified.{Trusts}
@@ -74,6 +74,10 @@ Verifies input device before after (Err fault.Store) =
     ((plan : PlanFields) × (root : List ℕ) × Trusts input device plan root) × (after ≡ before)
 Verifies input device before after (Err (fault.Compare cause)) = Compares input device before after (Err cause)
 Verifies input device before after (Err other) = Refuses input device other × (after ≡ before)
+
+-- what a run over any source and device answers when all is done: it names no files
+abbrev pub Verified : Type 0
+Verified = VerifiedOver (Unit {0})
 
 -- a run: one outcome says what became of the source, the device and the writer of the message
 pub record VerifyRun (input : VerifyInput) (status : ℕ) (source device : Change)

@@ -33,6 +33,6 @@ IsAskedFor (Stored offset text) plan root = read_root plan.settings.algorithm te
 IsAskedFor (Given settings) plan root = (plan ≡ settings.now.plan) × (settings.now.root ≡ Some root)
 
 -- it was verified by what the input asks for
-abbrev pub IsVerifiedBy : VerifyInput → Verified → Type 0
+abbrev pub IsVerifiedBy : {N : Type 0} → VerifyInput → Verified N → Type 0
 IsVerifiedBy input verified = (verified.offset ≡ superblock_offset input)
     × IsAskedFor input verified.tree.plan verified.tree.root

@@ -3,12 +3,12 @@ use Rattle.std.specs.Prelude.{ℕ, List, [], ◌∷◌, codes}
 use Rattle.std.specs.Fmt.{decimal}
 use Rattle.std.specs.List.{concat}
 use Rattle.hex.specs.Hex.{encode_lower}
-use Rattle.verity_tree.specs.declared.building.BuildFault.{BuildFault}
-use Rattle.verity_tree.specs.declared.building.BuildFault.TheVariants as build
-use Rattle.verity_tree.specs.declared.comparing.CompareFault.{CompareFault}
-use Rattle.verity_tree.specs.declared.comparing.CompareFault.TheVariants as compare
-use Rattle.verity_tree.specs.declared.part.Part.{Part}
-use Rattle.verity_tree.specs.declared.part.Part.TheVariants.{Missing, Child, Spare}
+use Rattle.verity_pass.specs.declared.building.BuildFault.{BuildFault}
+use Rattle.verity_pass.specs.declared.building.BuildFault.TheVariants as build
+use Rattle.verity_pass.specs.declared.comparing.CompareFault.{CompareFault}
+use Rattle.verity_pass.specs.declared.comparing.CompareFault.TheVariants as compare
+use Rattle.verity_pass.specs.declared.part.Part.{Part}
+use Rattle.verity_pass.specs.declared.part.Part.TheVariants.{Missing, Child, Spare}
 use Rattle.verity_format.specs.declared.super_fault.SuperFault.{SuperFault}
 use Rattle.verity_format.specs.declared.super_fault.SuperFault.TheVariants as super
 use Rattle.veritysetup.specs.declared.options.option_fault.OptionName.{OptionName}

@@ -18,8 +18,7 @@ use std::marker::Model;
 use uuid::Uuid;
 use verity_format::Superblock;
 use verity_hash::Digest;
-use verity_plan::{multiple_of, offset_unit, plan_at};
-use verity_tree::{HashType, Plan};
+use verity_plan::{HashType, Plan, multiple_of, offset_unit, plan_at};
 
 /// The settings of a hash device. Only `settings_of` makes them, so the parts agree: the plan's tree is of the hash
 /// type, the hash offset is aligned, and the hash blocks stand there, or after the superblock there.

@@ -6,8 +6,7 @@ ghost use Rattle.veritysetup.specs.Options.OptionTexts.{block_size_of};
 
 use crate::options::option_fault::{OptionFault, OptionName};
 use verity_hash::{Algorithm, ShortBytes};
-use verity_plan::{MOST_SALT, SettingFault};
-use verity_tree::{HashType, Plan, PlanFault, TreeSettings};
+use verity_plan::{HashType, MOST_SALT, Plan, PlanFault, SettingFault, TreeSettings};
 
 /// What the tree is made by, or the first fault: the data block size, the hash block size, or that there is no salt.
 pub fn tree_of(

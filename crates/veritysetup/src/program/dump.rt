@@ -9,8 +9,7 @@ ghost use Rattle.veritysetup.specs.Program.Steps.{IsDumpedByLine};
 use crate::Line;
 use crate::fault::Fault;
 use crate::options::hash_offset::offset_of;
-use crate::program::dumped_file::{DumpedFile, dump_opened};
-use crate::program::hash_device::HashDevice;
+use crate::runs::dump::{Dumped, dump_opened};
 use command_line::open_readable;
 use std::alloc::AllocGlobal;
 use std::io::Write;
@@ -22,14 +21,14 @@ pub(crate) fn dump_file<'a, R, O>(
     line: &Line,
     hash_path: &'a str,
     out: &mut O,
-) -> Result<DumpedFile<'a>, Fault<'a>>
+) -> Result<Dumped<'a>, Fault<'a>>
 where
     R: Files + AllocGlobal,
     O: Write,
     ensures by { IfOk result (IsDumpedByLine line.now) }
-    ensures hash { IfOk result (λ file. file.hash ≡ hash_path.entry) }
-    ensures report { IfOk result (λ file. Appends (O.contents out.old) (O.contents out.new)
-        (report_text hash_path.now (uuid_text file.dumped.superblock.uuid) file.dumped.superblock None)) }
+    ensures hash { IfOk result (λ dumped. dumped.hash ≡ hash_path.entry) }
+    ensures report { IfOk result (λ dumped. Appends (O.contents out.old) (O.contents out.new)
+        (report_text hash_path.now (uuid_text dumped.superblock.uuid) dumped.superblock None)) }
     ensures grows { Grows (O.contents out.old) (O.contents out.new) }
     ensures refused { IfErr (line_offset line.now) (EndsRefused result) }
     ensures unprinted { IfErr (line_offset line.now) (λ _. out.new ≡ out.old) }
@@ -39,7 +38,7 @@ where
         Err(fault) => return Err(Fault::Option(fault)),
     };
     match open_readable(rt, hash_path) {
-        Ok(opened) => dump_opened(rt.alloc(), offset, HashDevice::new(opened), out),
+        Ok(opened) => dump_opened(rt.alloc(), offset, &mut opened.into_device(), out),
         Err(_) => Err(Fault::Unopened(hash_path)),
     }
 }

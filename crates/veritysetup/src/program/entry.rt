@@ -100,7 +100,7 @@ where
                 hash: hash.as_str(),
             };
             match format_files(rt, progress, line, paths, out) {
-                Ok(files) => Ok(Done::Formatted(files)),
+                Ok((made, synced)) => Ok(Done::Formatted(made, synced)),
                 Err(fault) => Err(fault),
             }
         }

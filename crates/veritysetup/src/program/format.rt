@@ -2,9 +2,10 @@
 ghost use Rattle.std.specs.Prelude.{◌≡◌, ◌<◌, ◌≤◌, ◌&&◌, ℕ, List, length, not, is_some, IfErr, IfNone, IfOk, IfSome};
 ghost use Rattle.std.specs.Prelude.{Ok};
 ghost use Rattle.std.specs.Io.KnownBytes.{Appends};
-ghost use Rattle.verity_tree.specs.Levels.{whole_blocks};
+ghost use Rattle.verity_blocks.specs.Levels.{whole_blocks};
 ghost use Rattle.veritysetup.specs.Options.Choices.{settings_of};
 ghost use Rattle.veritysetup.specs.Options.OptionTexts.{option_texts};
+ghost use Rattle.veritysetup.specs.Options.Settings.{SettingsFields};
 ghost use Rattle.veritysetup.specs.Runs.Formatted.{format_report};
 ghost use Rattle.veritysetup.specs.Texts.TextChanges.{Grows};
 ghost use Rattle.veritysetup.specs.Program.RandomBytes.{IsDrawnFrom};
@@ -15,14 +16,13 @@ use crate::Line;
 use crate::fault::Fault;
 use crate::options::raw_options::RawOptions;
 use crate::options::settings::{Settings, settings_of};
-use crate::program::data_file::{DataFile, DataSource, open_data};
 use crate::program::file_paths::FilePaths;
-use crate::program::formatted_files::{FormattedFiles, format_opened};
-use crate::program::hash_device::HashDevice;
 use crate::program::random_bytes::draw_seeded;
-use crate::program::syncing::is_unknown;
+use crate::program::syncing::{Synced, is_unknown, sync_hash_device};
+use crate::runs::file_names::FileNames;
+use crate::runs::format::{Formatted, format_opened};
 use command_line::{
-    Identities, ProgressRuntime, ShownProgress, open_writable, paths_are_same_file,
+    Identities, ProgressRuntime, ShownProgress, open_measured, open_writable, paths_are_same_file,
 };
 use rand::rngs::StdRng;
 use rand::{Rng, SeedableRng};
@@ -30,20 +30,13 @@ use std::alloc::AllocGlobal;
 use std::io;
 use std::io::Write;
 use std::random::RandomSource;
-use std::rt::Files;
-use verity_tree::{BuildFault, Plan, Source};
+use verity_io::Failed;
+use verity_pass::BuildFault;
+use verity_plan::Plan;
 
-/// The options of format as the command line gives them, and random bytes in place of a salt or a UUID that is not
-/// given.
-#[derive(Clone, Copy)]
-struct FormatOptions<'a> {
-    raw: RawOptions<'a>,
-    random: Option<[u8; 48]>,
-}
-
-/// Makes the hash device of a data file. HASH is opened only once the options are read and DATA is known to be
-/// long enough, so neither a refused option nor short data leaves a new file. Before that, the system is asked whether
-/// HASH is DATA by another name.
+/// Makes the hash device of a data file, and asks the system to keep it, with its name if it is a new file. HASH is
+/// opened only once the options are read and DATA is known to be long enough, so neither a refused option nor short data
+/// leaves a new file. Before that, the system is asked whether HASH is DATA by another name.
 #[tactic(auto, using(crate::proofs::LineLemmas::some_text))]
 pub(crate) fn format_files<'a, R, O>(
     rt: &R,
@@ -51,24 +44,24 @@ pub(crate) fn format_files<'a, R, O>(
     line: &Line,
     paths: FilePaths<'a>,
     out: &mut O,
-) -> Result<FormattedFiles<'a>, Fault<'a>>
+) -> Result<(Formatted<FileNames<'a>>, Synced), Fault<'a>>
 where
     R: Identities + ProgressRuntime + RandomSource + AllocGlobal,
     O: Write,
-    ensures by { IfOk result (IsFormattedByLine (λ answer. (file : R.File) × R.file_is rt.now file answer)
+    ensures by { IfOk result (λ answer. IsFormattedByLine (λ answer. (file : R.File) × R.file_is rt.now file answer)
         (R.path_is rt.now)
-        (IsDrawnFrom (λ seed. ⟦<StdRng as Rng>⟧.stream (⟦<StdRng as SeedableRng>⟧.of_seed seed))) line.now) }
-    ensures data { IfOk result (λ files. files.data ≡ paths.entry.data) }
-    ensures hash { IfOk result (λ files. files.hash ≡ paths.entry.hash) }
-    ensures report { IfOk result (λ files. Appends (O.contents out.old) (O.contents out.new)
-        (format_report files.formatted.settings files.hash.now files.formatted.root)) }
+        (IsDrawnFrom (λ seed. ⟦<StdRng as Rng>⟧.stream (⟦<StdRng as SeedableRng>⟧.of_seed seed))) line.now answer.0) }
+    ensures data { IfOk result (λ answer. answer.0.files.data ≡ paths.entry.data) }
+    ensures hash { IfOk result (λ answer. answer.0.files.hash ≡ paths.entry.hash) }
+    ensures report { IfOk result (λ answer. Appends (O.contents out.old) (O.contents out.new)
+        (format_report answer.0.settings answer.0.files.hash.now answer.0.root)) }
     ensures grows { Grows (O.contents out.old) (O.contents out.new) }
 {
-    let data_file = match open_data(rt, paths.data, progress) {
-        Ok(data_file) => data_file,
+    let measured = match open_measured(rt, paths.data) {
+        Ok(measured) => measured,
         Err(_) => return Err(Fault::Unopened(paths.data)),
     };
-    let opened = rt.file_identity(data_file.file());
+    let opened = rt.file_identity(measured.opened().file());
     let other = rt.path_identity(paths.hash);
     let same_file = paths_are_same_file(paths.data, paths.hash, opened, other);
     let raw = line.raw(same_file);
@@ -76,8 +69,24 @@ where
         Ok(random) => random,
         Err(_) => return Err(Fault::NoRandomBytes),
     };
-    let options = FormatOptions { raw, random };
-    format_by(rt, &options, data_file, paths.hash, out)
+    let settings = match settings_for_data(&raw, measured.length(), random) {
+        Ok(settings) => settings,
+        Err(fault) => return Err(fault),
+    };
+    let mut data = measured.into_source(settings.plan().wanted(), progress);
+    let is_new = is_unknown(rt, paths.hash);
+    let mut hash = match open_writable(rt, paths.hash) {
+        Ok(opened) => opened.into_device(),
+        Err(_) => return Err(Fault::Unopened(paths.hash)),
+    };
+    let made = match format_opened(rt.alloc(), &settings, &mut data, &mut hash, out) {
+        Ok(made) => made,
+        Err(fault) => return Err(fault),
+    };
+    match sync_hash_device(rt, hash.file(), paths.hash, is_new) {
+        Ok(synced) => Ok((made, synced)),
+        Err(Failed) => Err(Fault::Unwritten(paths.hash)),
+    }
 }
 
 /// Random bytes of a generator that the runtime seeds, if salt or UUID is missing.
@@ -92,65 +101,28 @@ fn draw_if_missing<R: RandomSource>(rt: &R, raw: &RawOptions) -> io::Result<Opti
     Ok(Some(draw_seeded(rt)?))
 }
 
-/// Makes the hash device of an opened data file, by options. A refused option opens no HASH.
-fn format_by<'a, R, O>(
-    rt: &R,
-    options: &FormatOptions<'_>,
-    data_file: DataFile<'_, 'a, R, R::File>,
-    hash_path: &'a str,
-    out: &mut O,
-) -> Result<FormattedFiles<'a>, Fault<'a>>
-where
-    R: Files + ProgressRuntime + AllocGlobal,
-    O: Write,
-    ensures by { IfOk result (λ files. settings_of (option_texts options.now.raw) files.length options.now.random
-        ≡ Ok files.formatted.settings) }
-    ensures data { IfOk result (λ files. files.data ≡ data_file.entry.measured.opened.path) }
-    ensures hash { IfOk result (λ files. files.hash ≡ hash_path.entry) }
-    ensures report { IfOk result (λ files. Appends (O.contents out.old) (O.contents out.new)
-        (format_report files.formatted.settings files.hash.now files.formatted.root)) }
-    ensures grows { Grows (O.contents out.old) (O.contents out.new) }
-    ensures refused { IfErr
-        (settings_of (option_texts options.now.raw) data_file.entry.measured.length options.now.random)
-        (EndsRefused result) }
-    ensures unprinted { IfErr
-        (settings_of (option_texts options.now.raw) data_file.entry.measured.length options.now.random)
-        (λ _. out.new ≡ out.old) }
+/// The settings that the options choose for data of this size, with random bytes in place of a salt or a UUID that is
+/// not given. If more data is wanted than there is, the fault names the first data block that isn't whole.
+fn settings_for_data(
+    raw: &RawOptions,
+    size: u64,
+    random: Option<[u8; 48]>,
+) -> Result<Settings, Fault<'static>>
+    ensures chosen { IfOk result (λ settings. settings_of (option_texts raw.now) size random ≡ Ok settings) }
+    ensures enough { IfOk result (λ settings. settings.plan.wanted ≤ size) }
+    ensures refused { IfErr (settings_of (option_texts raw.now) size random) (EndsRefused result) }
+    ensures short { (settings : SettingsFields) → settings_of (option_texts raw.now) size random ≡ Ok settings
+        → size < settings.plan.wanted → (bytes : List ℕ) → length bytes ≡ size
+        → EndsShort result (whole_blocks settings.plan bytes) }
 {
-    match settings_of(&options.raw, data_file.length(), options.random.as_ref()) {
-        Ok(settings) => format_if_enough(rt, &settings, data_file, hash_path, out),
-        Err(fault) => Err(Fault::Option(fault)),
+    let settings = match settings_of(raw, size, random.as_ref()) {
+        Ok(settings) => settings,
+        Err(fault) => return Err(Fault::Option(fault)),
+    };
+    match missing_block(settings.plan(), size) {
+        Some(block) => Err(Fault::Build(BuildFault::SourceShort(block))),
+        None => Ok(settings),
     }
-}
-
-/// Makes the hash device of an opened data file. If more data is wanted than there is, HASH is not opened, and the
-/// fault names the first data block that isn't whole.
-fn format_if_enough<'a, R, O>(
-    rt: &R,
-    settings: &Settings,
-    data_file: DataFile<'_, 'a, R, R::File>,
-    hash_path: &'a str,
-    out: &mut O,
-) -> Result<FormattedFiles<'a>, Fault<'a>>
-where
-    R: Files + ProgressRuntime + AllocGlobal,
-    O: Write,
-    ensures settings { IfOk result (λ files. files.formatted.settings ≡ settings.now) }
-    ensures data { IfOk result (λ files. files.data ≡ data_file.entry.measured.opened.path) }
-    ensures length { IfOk result (λ files. files.length ≡ data_file.entry.measured.length) }
-    ensures hash { IfOk result (λ files. files.hash ≡ hash_path.entry) }
-    ensures report { IfOk result (λ files. Appends (O.contents out.old) (O.contents out.new)
-        (format_report files.formatted.settings files.hash.now files.formatted.root)) }
-    ensures grows { Grows (O.contents out.old) (O.contents out.new) }
-    ensures short { data_file.entry.measured.length < settings.now.plan.wanted → (bytes : List ℕ)
-        → length bytes ≡ data_file.entry.measured.length
-        → EndsShort result (whole_blocks settings.now.plan bytes) × (out.new ≡ out.old) }
-{
-    if let Some(block) = missing_block(settings.plan(), data_file.length()) {
-        return Err(Fault::Build(BuildFault::SourceShort(block)));
-    }
-    let data = data_file.source(settings.plan().wanted());
-    make_hash_device(rt, settings, data, hash_path, out)
 }
 
 /// The number of the first data block that is not whole in data of this size, if the plan wants more data.
@@ -163,36 +135,5 @@ fn missing_block(plan: &Plan, size: u64) -> Option<u64>
         Some(size / u64::from(plan.settings().data_block()))
     } else {
         None
-    }
-}
-
-/// Opens HASH, makes it, and asks the system to keep it, with its name if it is a new file.
-fn make_hash_device<'a, R, S, O>(
-    rt: &R,
-    settings: &Settings,
-    data: DataSource<'a, S>,
-    hash_path: &'a str,
-    out: &mut O,
-) -> Result<FormattedFiles<'a>, Fault<'a>>
-where
-    R: Files + AllocGlobal,
-    S: Source + Drop,
-    O: Write,
-    ensures settings { IfOk result (λ files. files.formatted.settings ≡ settings.now) }
-    ensures data { IfOk result (λ files. files.data ≡ data.entry.path) }
-    ensures length { IfOk result (λ files. files.length ≡ data.entry.length) }
-    ensures hash { IfOk result (λ files. files.hash ≡ hash_path.entry) }
-    ensures report { IfOk result (λ files. Appends (O.contents out.old) (O.contents out.new)
-        (format_report files.formatted.settings files.hash.now files.formatted.root)) }
-    ensures grows { Grows (O.contents out.old) (O.contents out.new) }
-{
-    let is_new = is_unknown(rt, hash_path);
-    let hash = match open_writable(rt, hash_path) {
-        Ok(opened) => HashDevice::new(opened),
-        Err(_) => return Err(Fault::Unopened(hash_path)),
-    };
-    match format_opened(rt.alloc(), settings, data, hash, out) {
-        Ok(unsynced) => unsynced.synced(rt, is_new),
-        Err(fault) => Err(fault),
     }
 }

@@ -5,13 +5,19 @@ ghost use Rattle.veritysetup.specs.Program.Folders.{folder_of};
 use std::fs::File;
 use std::path::Path;
 use std::rt::Files;
-use verity_tree::{Failed, FileDevice};
+use verity_io::{Failed, FileDevice};
 
 /// Whether the system doesn't say what is at this path. Either there is nothing, so a file that is made there is new;
 /// or the system refuses to say, as where access is denied. If a file is there then, and can be opened all the same,
 /// it counts as new too, and its folder is synced without need.
 pub(crate) fn is_unknown<R: Files>(rt: &R, path: &str) -> bool {
     rt.metadata(path).is_err()
+}
+
+/// That the system has been asked to keep a hash device. Only `sync_hash_device` makes one.
+#[derive(Clone, Copy)]
+pub(crate) struct Synced {
+    _asked: (),
 }
 
 /// Asks the system to keep what was written to the file at this path (fsync(2)) and, if the file is new, its name in
@@ -21,12 +27,12 @@ pub(crate) fn sync_hash_device<R: Files>(
     device: &FileDevice<R::File>,
     path: &str,
     is_new: bool,
-) -> Result<(), Failed> {
+) -> Result<Synced, Failed> {
     device.sync()?;
     if is_new {
         sync_names(rt, folder_of(path))?;
     }
-    Ok(())
+    Ok(Synced { _asked: () })
 }
 
 /// Asks the system to keep the names of a folder's files. It succeeds too if the folder may not be opened for reading.

@@ -7,38 +7,41 @@ ghost use Rattle.veritysetup.specs.Runs.Dump.{DumpRun, DumpsTo};
 ghost use Rattle.veritysetup.specs.Runs.HashDevice.{superblock_at};
 ghost use Rattle.veritysetup.specs.Runs.OnlyRead.{IsOnlyRead};
 ghost use Rattle.veritysetup.specs.Texts.Reports.{report_text, uuid_text};
-ghost use Rattle.veritysetup.specs.Texts.TextChanges.{text_change};
+ghost use Rattle.veritysetup.specs.Texts.TextChanges.{Grows, text_change};
 
 use crate::fault::{Fault, end_run};
 use crate::runs::completed::Completed;
 use crate::runs::stored_superblock::stored_superblock;
 use crate::texts::reports::report;
-use command_line::write_whole;
+use command_line::{OpenedFile, write_whole};
 use std::alloc::Global;
 use std::io::Write;
 use verity_format::Superblock;
-use verity_tree::Device;
+use verity_io::Device;
 
-/// The superblock that was printed, and the byte at which it was read. Only `dump` makes one.
+/// The superblock that was printed, the byte at which it was read, and the path of the device. Only `dump` makes one,
+/// and for the program only `dump_opened` gives one out.
 #[derive(Drop)]
-pub(crate) struct Dumped {
+pub(crate) struct Dumped<'p> {
     superblock: Superblock,
     offset: u64,
+    hash: &'p str,
 }
 
-impl Completed for Dumped {}
+impl Completed for Dumped<'_> {}
 
 /// Reads the superblock and prints its report.
-pub(crate) fn dump<D: Device, O: Write>(
+fn dump<'p, D: Device, O: Write>(
     alloc: Global,
     offset: u64,
-    hash_path: &str,
+    hash_path: &'p str,
     device: &mut D,
     out: &mut O,
-) -> Result<Dumped, Fault<'static>>
+) -> Result<Dumped<'p>, Fault<'p>>
     ensures superblock { D.tells device.old →
         IfOk result (λ dumped. IsSuperblock (superblock_at offset (D.content device.old)) dumped.superblock) }
     ensures offset { IfOk result (λ dumped. dumped.offset ≡ offset) }
+    ensures hash { IfOk result (λ dumped. dumped.hash ≡ hash_path.entry) }
     ensures report { IfOk result (λ dumped. Appends (O.contents out.old) (O.contents out.new)
         (report_text hash_path.now (uuid_text dumped.superblock.uuid) dumped.superblock None)) }
     ensures only_read { IsOnlyRead D.tells D.content D.failures device.old device.new result }
@@ -50,9 +53,32 @@ pub(crate) fn dump<D: Device, O: Write>(
         Err(fault) => return Err(fault),
     };
     match write_whole(report(alloc, &superblock, None, hash_path), out) {
-        Ok(()) => Ok(Dumped { superblock, offset }),
+        Ok(()) => Ok(Dumped {
+            superblock,
+            offset,
+            hash: hash_path,
+        }),
         Err(fault) => Err(Fault::Report(fault)),
     }
+}
+
+/// Prints what the superblock of an opened hash device says. A file of the system tells nothing, so `superblock` says
+/// nothing of one; by it a body is refused that reads another device.
+pub(crate) fn dump_opened<'p, D: Device, O: Write>(
+    alloc: Global,
+    offset: u64,
+    hash: &mut OpenedFile<'p, D>,
+    out: &mut O,
+) -> Result<Dumped<'p>, Fault<'p>>
+    ensures superblock { D.tells hash.old.file → IfOk result (λ dumped.
+        IsSuperblock (superblock_at offset (D.content hash.old.file)) dumped.superblock) }
+    ensures offset { IfOk result (λ dumped. dumped.offset ≡ offset) }
+    ensures hash { IfOk result (λ dumped. dumped.hash ≡ hash.old.path) }
+    ensures report { IfOk result (λ dumped. Appends (O.contents out.old) (O.contents out.new)
+        (report_text dumped.hash.now (uuid_text dumped.superblock.uuid) dumped.superblock None)) }
+    ensures grows { Grows (O.contents out.old) (O.contents out.new) }
+{
+    dump(alloc, offset, hash.path(), hash, out)
 }
 
 /// Prints what the superblock at an offset, in bytes, of a hash device says, without a root hash (veritysetup(8),

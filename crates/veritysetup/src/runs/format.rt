@@ -4,23 +4,25 @@ ghost use Rattle.std.specs.Io.KnownBytes.{Appends};
 ghost use Rattle.verity_io.specs.Counting.{Counts, CountsFailure, TheDevice, TheSource, change, failed_at};
 ghost use Rattle.verity_io.specs.Writing.{Spoiled};
 ghost use Rattle.verity_plan.specs.Plans.{IsPlan, superblock_size};
-ghost use Rattle.verity_tree.specs.Levels.{data_blocks};
+ghost use Rattle.verity_blocks.specs.Levels.{data_blocks};
 ghost use Rattle.veritysetup.specs.Faults.{side_of};
 ghost use Rattle.veritysetup.specs.Options.Settings.{PartsAgree};
 ghost use Rattle.veritysetup.specs.Runs.Format.{FormatRun, PrintsReport, Reads, Writes, with_superblock};
 ghost use Rattle.veritysetup.specs.Runs.Formatted.{IsFormatted, format_report, root_above};
-ghost use Rattle.veritysetup.specs.Texts.TextChanges.{text_change};
+ghost use Rattle.veritysetup.specs.Texts.TextChanges.{Grows, text_change};
 
 use crate::fault::{Fault, end_run};
 use crate::options::settings::Settings;
 use crate::runs::completed::Completed;
+use crate::runs::file_names::FileNames;
 use crate::texts::reports::{report, report_bare};
-use command_line::write_whole;
+use command_line::{MeasuredFile, OpenedFile, write_whole};
 use std::alloc::{AllocError, Global};
 use std::io::Write;
 use verity_format::write_superblock;
 use verity_hash::Digest;
-use verity_tree::{Device, Failed, Source, Store, build};
+use verity_io::{Device, Failed, Source};
+use verity_pass::{Store, build};
 
 /// Writes the superblock at the hash offset, if the settings have one.
 fn write_superblock_to<D: Device>(settings: &Settings, device: &mut D) -> Result<(), Failed>
@@ -58,25 +60,29 @@ fn settings_report(
     }
 }
 
-/// The settings that a hash device was made by, and the root hash that was printed. Only `format` makes one.
+/// The settings that a hash device was made by, the root hash that was printed, and what is said of the files that this
+/// was done over. Only `format` makes one, and for the program only `format_opened` gives one out.
 #[derive(Drop)]
-pub(crate) struct Formatted {
+pub(crate) struct Formatted<N> {
     settings: Settings,
     root: Digest,
+    files: N,
 }
 
-impl Completed for Formatted {}
+impl<N> Completed for Formatted<N> {}
 
 /// Builds the tree, writes the superblock after it, and prints the report.
-pub(crate) fn format<S: Source, D: Device, O: Write>(
+fn format<'f, N: Copy, S: Source, D: Device, O: Write>(
     alloc: Global,
     settings: &Settings,
     hash_path: &str,
+    files: N,
     source: &mut S,
     device: &mut D,
     out: &mut O,
-) -> Result<Formatted, Fault<'static>>
+) -> Result<Formatted<N>, Fault<'f>>
     ensures settings { IfOk result (λ formatted. formatted.settings ≡ settings.now) }
+    ensures files { IfOk result (λ formatted. formatted.files ≡ files) }
     ensures root { S.tells source.old →
         IfOk result (λ formatted. formatted.root ≡ root_above settings.now (S.remaining source.old)) }
     ensures report { IfOk result (λ formatted. Appends (O.contents out.old) (O.contents out.new)
@@ -110,9 +116,38 @@ pub(crate) fn format<S: Source, D: Device, O: Write>(
         Ok(()) => Ok(Formatted {
             settings: *settings,
             root,
+            files,
         }),
         Err(fault) => Err(Fault::Report(fault)),
     }
+}
+
+/// Makes an opened hash device of an opened data file. A file of the system tells nothing, so `root`, `read` and `stands`
+/// say nothing of one; by them bodies are refused that make the device of other data, or another device.
+pub(crate) fn format_opened<'p, S: Source, D: Device, O: Write>(
+    alloc: Global,
+    settings: &Settings,
+    data: &mut MeasuredFile<'p, S>,
+    hash: &mut OpenedFile<'p, D>,
+    out: &mut O,
+) -> Result<Formatted<FileNames<'p>>, Fault<'p>>
+    ensures settings { IfOk result (λ made. made.settings ≡ settings.now) }
+    ensures data { IfOk result (λ made. made.files.data ≡ data.old.opened.path) }
+    ensures length { IfOk result (λ made. made.files.length ≡ data.old.length) }
+    ensures hash { IfOk result (λ made. made.files.hash ≡ hash.old.path) }
+    ensures root { S.tells data.old.opened.file → IfOk result (λ made. made.root
+        ≡ root_above settings.now (S.remaining data.old.opened.file)) }
+    ensures read { S.tells data.old.opened.file →
+        Reads settings.now result (S.remaining data.old.opened.file) (S.remaining data.new.opened.file) }
+    ensures stands { S.tells data.old.opened.file → D.tells hash.old.file →
+        Writes settings.now (data_blocks settings.now.plan (S.remaining data.old.opened.file)) result
+        (D.content hash.old.file) (D.content hash.new.file) }
+    ensures report { IfOk result (λ made. Appends (O.contents out.old) (O.contents out.new)
+        (format_report settings.now made.files.hash.now made.root)) }
+    ensures grows { Grows (O.contents out.old) (O.contents out.new) }
+{
+    let files = FileNames::of(data, hash);
+    format(alloc, settings, files.hash, files, data, hash, out)
 }
 
 /// What all settings keep to. Called for the proof.
@@ -153,6 +188,6 @@ pub fn run_format<S: Source, D: Device, O: Write, M: Write>(
         (text_change O.contents M.contents out.old out.new msgs.old msgs.new) }
 {
     settings_are_valid(settings);
-    let outcome = format(alloc, settings, hash_path, source, device, out);
+    let outcome = format(alloc, settings, hash_path, (), source, device, out);
     end_run(alloc, outcome, msgs)
 }

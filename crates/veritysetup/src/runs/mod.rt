@@ -2,6 +2,7 @@
 
 pub(crate) mod completed;
 pub(crate) mod dump;
+pub(crate) mod file_names;
 pub(crate) mod format;
 pub(crate) mod stored_superblock;
 pub(crate) mod trusted_tree;

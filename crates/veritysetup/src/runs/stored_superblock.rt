@@ -5,8 +5,8 @@ ghost use Rattle.veritysetup.specs.Runs.StoredSuperblock.{IsSuperblockFault, Rea
 
 use crate::fault::Fault;
 use verity_format::{Superblock, read_superblock};
+use verity_io::{Device, Failed};
 use verity_plan::SUPERBLOCK_SIZE;
-use verity_tree::{Device, Failed};
 
 /// Reads the superblock at an offset, in bytes, of a hash device (cryptsetup's on-disk format page).
 pub fn stored_superblock<D: Device>(

@@ -11,8 +11,8 @@ use crate::options::root_hash::read_root;
 use crate::runs::stored_superblock::stored_superblock;
 use crate::runs::verify_input::VerifyInput;
 use verity_hash::Digest;
-use verity_plan::plan_at;
-use verity_tree::{Device, Plan};
+use verity_io::Device;
+use verity_plan::{Plan, plan_at};
 
 /// What a stored tree is compared by.
 #[derive(Clone, Copy)]

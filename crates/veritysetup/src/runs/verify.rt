@@ -9,30 +9,37 @@ ghost use Rattle.veritysetup.specs.Runs.Verified.{IsVerified};
 
 use crate::fault::{Fault, end_run};
 use crate::runs::completed::Completed;
+use crate::runs::file_names::FileNames;
 use crate::runs::trusted_tree::{TrustedTree, read_trusted_tree};
 use crate::runs::verify_input::VerifyInput;
+use command_line::{MeasuredFile, OpenedFile};
 use std::alloc::Global;
 use std::io::Write;
-use verity_tree::{Device, Source, Store, compare};
+use verity_io::{Device, Source};
+use verity_pass::{Store, compare};
 
-/// By what a hash device was verified. Only `verify` makes one.
+/// By what a hash device was verified, and what is said of the files that this was done over. Only `verify` makes one,
+/// and for the program only `verify_opened` gives one out.
 #[derive(Drop)]
-pub(crate) struct Verified {
+pub(crate) struct Verified<N> {
     tree: TrustedTree,
     /// The byte at which the superblock was read, if one was.
     offset: Option<u64>,
+    files: N,
 }
 
-impl Completed for Verified {}
+impl<N> Completed for Verified<N> {}
 
 /// Compares the stored tree with the one above the data.
-pub(crate) fn verify<S: Source, D: Device>(
+fn verify<'f, N: Copy, S: Source, D: Device>(
     alloc: Global,
     input: &VerifyInput,
+    files: N,
     source: &mut S,
     device: &mut D,
-) -> Result<Verified, Fault<'static>>
+) -> Result<Verified<N>, Fault<'f>>
     ensures by { IfOk result (IsVerifiedBy input.now) }
+    ensures files { IfOk result (λ verified. verified.files ≡ files) }
     ensures source_told { S.tells source.old → S.tells source.new }
     ensures only_read { IsOnlyRead D.tells D.content D.failures device.old device.new result }
     ensures verdict { S.tells source.old → D.tells device.old →
@@ -52,9 +59,29 @@ pub(crate) fn verify<S: Source, D: Device>(
         Ok(()) => Ok(Verified {
             tree,
             offset: input.superblock_offset(),
+            files,
         }),
         Err(fault) => Err(Fault::Compare(fault)),
     }
+}
+
+/// Verifies an opened hash device against an opened data file. Files of the system tell nothing, so `verdict` says nothing
+/// of them; by it a body is refused that compares with other data.
+pub(crate) fn verify_opened<'p, S: Source, D: Device>(
+    alloc: Global,
+    input: &VerifyInput,
+    data: &mut MeasuredFile<'p, S>,
+    hash: &mut OpenedFile<'p, D>,
+) -> Result<Verified<FileNames<'p>>, Fault<'p>>
+    ensures by { IfOk result (IsVerifiedBy input.now) }
+    ensures data { IfOk result (λ verified. verified.files.data ≡ data.old.opened.path) }
+    ensures length { IfOk result (λ verified. verified.files.length ≡ data.old.length) }
+    ensures hash { IfOk result (λ verified. verified.files.hash ≡ hash.old.path) }
+    ensures verdict { S.tells data.old.opened.file → D.tells hash.old.file →
+        Verifies input.now (D.content hash.old.file) (S.remaining data.old.opened.file)
+        (S.remaining data.new.opened.file) result }
+{
+    verify(alloc, input, FileNames::of(data, hash), data, hash)
 }
 
 /// Verifies a hash device against the data of a source and a root hash (veritysetup(8), "verify"). The answer is the
@@ -82,5 +109,5 @@ pub fn run_verify<S: Source, D: Device, M: Write>(
         (change D.tells D.content D.failures device.old device.new)
         (M.contents msgs.old) (M.contents msgs.new) }
 {
-    end_run(alloc, verify(alloc, input, source, device), msgs)
+    end_run(alloc, verify(alloc, input, (), source, device), msgs)
 }

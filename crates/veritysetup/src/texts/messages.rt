@@ -6,7 +6,7 @@ ghost use Rattle.veritysetup.specs.Texts.Messages.{difference_message, compare_m
 use crate::{OptionFault, OptionName};
 use std::alloc::{AllocError, Global};
 use verity_format::SuperFault;
-use verity_tree::{BuildFault, CompareFault, Part};
+use verity_pass::{BuildFault, CompareFault, Part};
 
 /// The data holds no whole block, or a superblock describes none.
 const NO_DATA: &str = "No data blocks.\n";

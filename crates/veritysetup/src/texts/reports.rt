@@ -7,7 +7,7 @@ use std::alloc::{AllocError, Global};
 use uuid::Uuid;
 use verity_format::Superblock;
 use verity_hash::Digest;
-use verity_tree::TreeSettings;
+use verity_plan::TreeSettings;
 
 /// What a superblock says, in one line for each field, and for format the root hash (modelled on veritysetup(8),
 /// "dump"). The error means that there is no memory.

@@ -1,5 +1,5 @@
 use Rattle.std.proofs.Common.{ap, subst, take, ℕ, ◌∙◌}
-use Rattle.verity_tree.specs.declared.join_builder.JoinBuilder.{JoinBuilder}
+use Rattle.verity_builders.specs.declared.join_builder.JoinBuilder.{JoinBuilder}
 use Rattle.verity_c.proofs.JoinLemmas.{AreNextDigests-at, HandsOutOfJoin-at, IsJoinedTo-at, IsJoinedTo-of}
 use Rattle.verity_c.proofs.JoinLemmas.{TakesDigests-at}
 use Rattle.verity_c_api.proofs.BuildingLemmas.{taken_is}

@@ -1,5 +1,5 @@
 use Rattle.std.proofs.Common.{◌++◌, ℕ, take, ap, subst, sym, ◌∙◌}
-use Rattle.verity_tree.specs.declared.part_builder.PartBuilder.{PartBuilder}
+use Rattle.verity_builders.specs.declared.part_builder.PartBuilder.{PartBuilder}
 use Rattle.verity_c_api.specs.Parts.{IsFedPartTo}
 use Rattle.verity_c_api.proofs.BuildingLemmas.{taken_is}
 use Rattle.verity_c.proofs.PartLemmas.{HandsOutOfPart-at, IsFedPartTo-at, IsFedPartTo-of, TakesPartPiece-at, part_of}

@@ -1,5 +1,5 @@
 use Rattle.std.proofs.Common.{subst, sym}
-use Rattle.verity_tree.specs.Levels.{data_blocks}
+use Rattle.verity_blocks.specs.Levels.{data_blocks}
 use Rattle.veritysetup.specs.Runs.Format.{formatted_device}
 use Rattle.veritysetup.specs.Runs.Formatted.{IsFormattedDevice}
 use Rattle.veritysetup.proofs.FormattedLemmas.{formatted-same, written-formatted}

@@ -2,7 +2,7 @@ use Rattle.std.proofs.Common.{◌≡◌, ◌⊎◌, Bool, List, Option, ap, cond
 use Rattle.hex.specs.Hex.{encode_lower}
 use Rattle.verity_format.specs.Superblocks.{SuperblockFields, superblock_bytes}
 use Rattle.verity_format.proofs.SuperblockLemmas.{one-superblock}
-use Rattle.verity_tree.specs.Levels.{data_blocks}
+use Rattle.verity_blocks.specs.Levels.{data_blocks}
 use Rattle.veritysetup.specs.Options.Choices.{settings_of}
 use Rattle.veritysetup.specs.Options.OptionTexts.{superblock_uuid}
 use Rattle.veritysetup.specs.Options.PrintedOptions.{printed_options, report_of_options, without_root}

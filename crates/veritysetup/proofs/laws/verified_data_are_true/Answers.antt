@@ -1,5 +1,5 @@
 use Rattle.std.proofs.Common.{sym, ◌∙◌}
-use Rattle.verity_tree.proofs.BindingLemmas.{data-bound}
+use Rattle.verity_pass.proofs.BoundData.{data-bound}
 use Rattle.veritysetup.proofs.InputLemmas.{trusted-planned}
 use Rattle.veritysetup.proofs.laws.verified_data_are_true.Goals as goal
 

@@ -1,4 +1,4 @@
-use Rattle.std.proofs.Common.{◌≡◌, ◌+◌, ◌<◌, ℕ, List, [], Some, false, not, length, get_or, ap, refl, sym, ◌∙◌, arith, map}
+use Rattle.std.proofs.Common.{◌≡◌, ◌+◌, ◌<◌, ℕ, List, [], Some, false, not, length, get_or, ap, refl, ◌∙◌, arith, map}
 use Rattle.std.proofs.Common.{option_map}
 use Rattle.std.proofs.lemmas.List.{length-map}
 use Rattle.std.proofs.lemmas.List.Sums.{prefix_len-le-length}
@@ -33,8 +33,9 @@ returns-in-Err-clause-ended g c =
     let part = part_of_digest_line _ _ _ _ _ _ _ _ c.in-Err.fault _ _ named c.loop-name.invariant.same.told.0
     c.loop-name.invariant.same.files c.loop-name.invariant.next c.in-Err.ensures.written in (
       c.loop-name.name-index,
-      sym (get_or_from_slice_get (map (λ n. n.now) c.args.names.now) c.loop-name.name-index _ [] named),
       record {
+        at_file = rw (get_or_from_slice_get (map (λ n. n.now) c.args.names.now) c.loop-name.name-index _ [] named)
+            c.in-Err.ensures.at_file;
         has_name = rw (length-map c.args.names.now (λ n. n.now)) c.loop-name-test.true;
         is_next = c.write_next_digest_line.ensures.next ∙ ap (λ n. n + 1) c.loop-name.invariant.next;
         within = c.loop-name.invariant.within;

@@ -1,6 +1,6 @@
 use Rattle.std.proofs.Common.{◌∙◌}
 use Rattle.verity_plan.proofs.PlanLemmas.{planned_is}
-use Rattle.verity_tree.proofs.RootLemmas.{root_of_some}
+use Rattle.verity_pass.proofs.RootLevels.{root_of_some}
 use Rattle.fsverity.proofs.DigestLemmas.{ends_short, fails_within, tree_of_some}
 use Rattle.fsverity.proofs.runs.file_digest.root_of_source.Goals as goal
 

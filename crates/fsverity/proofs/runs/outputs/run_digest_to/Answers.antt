@@ -1,13 +1,22 @@
-use Rattle.std.proofs.Common.{Ok, Err, refl}
-use Rattle.fsverity.proofs.OutcomeLemmas.{run_of}
+use Rattle.fsverity.proofs.RunLemmas.{of_done, status_either}
 use Rattle.fsverity.proofs.runs.outputs.run_digest_to.Goals as goal
 
-pub returns-in-Ok-clause-run : goal.returns-in-Ok-clause-run
-returns-in-Ok-clause-run g c = run_of _ (Ok c.in-Ok.written) c.args.name _ _ _ _ refl c.end_run.ensures.status
-    c.in-Ok.ensures.too_large c.in-Ok.ensures.read c.in-Ok.ensures.stands c.in-Ok.ensures.written
-    c.end_run.ensures.message c.in-Ok.ensures.source_count c.in-Ok.ensures.tree_count
+pub returns-clause-status : goal.returns-clause-status
+returns-clause-status g c = rw c.end_run.ensures.status (status_either _ c.write_outputs-outcome.ensures.failed)
 
-pub returns-in-Err-clause-run : goal.returns-in-Err-clause-run
-returns-in-Err-clause-run g c = run_of _ (Err c.in-Err.fault) c.args.name _ _ _ _ refl c.end_run-in-Err.ensures.status
-    c.in-Err.ensures.too_large c.in-Err.ensures.read c.in-Err.ensures.stands c.in-Err.ensures.written
-    c.end_run-in-Err.ensures.message c.in-Err.ensures.source_count c.in-Err.ensures.tree_count
+pub returns-clause-all : goal.returns-clause-all
+returns-clause-all g c = λ zero t. of_done _ (c.end_run.ensures.done zero) c.write_outputs-outcome.ensures.all t
+
+pub returns-clause-run : goal.returns-clause-run
+returns-clause-run g c = record {
+  outcome = c.write_outputs-outcome.result;
+  possible = c.write_outputs-outcome.ensures.possible;
+  status_is = c.end_run.ensures.status;
+  too_large = c.write_outputs-outcome.ensures.too_large;
+  read = c.write_outputs-outcome.ensures.read;
+  stands = c.write_outputs-outcome.ensures.stands;
+  outputs_written = c.write_outputs-outcome.ensures.written;
+  told = c.end_run.ensures.message;
+  source_counted = c.write_outputs-outcome.ensures.source_count;
+  tree_counted = c.write_outputs-outcome.ensures.tree_count;
+}

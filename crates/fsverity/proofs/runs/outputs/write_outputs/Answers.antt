@@ -1,7 +1,7 @@
 use Rattle.std.proofs.Common.{refl}
 use Rattle.command_line.proofs.Prefixes.{Keeps-refl}
-use Rattle.verity_tree.specs.Levels.{root_of_file}
-use Rattle.verity_tree.proofs.RootLemmas.{length-root_of_file}
+use Rattle.verity_blocks.specs.Levels.{root_of_file}
+use Rattle.verity_pass.proofs.RootLevels.{length-root_of_file}
 use Rattle.fsverity.proofs.runs.outputs.write_outputs.Goals as goal
 
 pub returns-in-Err-clause-written : goal.returns-in-Err-clause-written

@@ -1,9 +1,8 @@
 use Rattle.std.proofs.Common.{subst, sym, Result}
-use Rattle.verity_tree.specs.Levels.{data_blocks}
-use Rattle.veritysetup.specs.Runs.Format.{PrintsReport, Reads, Writes}
+use Rattle.verity_blocks.specs.Levels.{data_blocks}
+use Rattle.veritysetup.specs.Runs.Format.{Formatted, PrintsReport, Reads, Writes}
 use Rattle.veritysetup.specs.Runs.Formatted.{IsFormattedDevice, format_report}
 use Rattle.veritysetup.specs.declared.fault.Fault.{Fault}
-use Rattle.veritysetup.specs.declared.runs.format.Formatted.{Formatted}
 use Rattle.veritysetup.proofs.FormattedLemmas.{written-formatted}
 use Rattle.veritysetup.proofs.SettingsLemmas.{AreValid}
 use Rattle.veritysetup.proofs.runs.format.run_format.Goals as goal

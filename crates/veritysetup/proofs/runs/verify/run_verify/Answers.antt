@@ -1,8 +1,7 @@
 use Rattle.std.proofs.Common.{subst, Result}
-use Rattle.verity_tree.proofs.HoldsLemmas.{right-holds_enough}
-use Rattle.veritysetup.specs.Runs.Verify.{Verifies}
+use Rattle.verity_pass.proofs.HeldTree.{right-holds_enough}
+use Rattle.veritysetup.specs.Runs.Verify.{Verified, Verifies}
 use Rattle.veritysetup.specs.declared.fault.Fault.{Fault}
-use Rattle.veritysetup.specs.declared.runs.verify.Verified.{Verified}
 use Rattle.veritysetup.proofs.runs.verify.run_verify.Goals as goal
 
 pub returns-clause-verified : goal.returns-clause-verified

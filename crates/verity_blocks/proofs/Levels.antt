@@ -1,0 +1,4 @@
+pub mod LevelCounts
+pub mod CutBlocks
+pub mod FirstBlocks
+pub mod DataBlocks

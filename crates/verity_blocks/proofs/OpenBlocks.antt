@@ -1,0 +1,4 @@
+pub mod OpenBlock
+pub mod DigestsInTurn
+pub mod Reached
+pub mod ClosingBlocks

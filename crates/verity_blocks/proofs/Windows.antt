@@ -1,0 +1,3 @@
+pub mod RowsOfWindow
+pub mod BytesToWindow
+pub mod LastByte

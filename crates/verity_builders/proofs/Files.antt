@@ -1,0 +1,5 @@
+pub mod SmallFiles
+pub mod FileCalls
+pub mod FileTreeCalls
+pub mod FileTreeMemory
+pub mod FileTreeBlocks

@@ -1,0 +1,4 @@
+pub mod JoinMemory
+pub mod JoinDigests
+pub mod JoinInOrder
+pub mod PlanOfJoin

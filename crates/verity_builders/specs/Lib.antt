@@ -1,0 +1,5 @@
+pub mod Feeding
+pub mod FileTrees
+pub mod Parts
+pub mod PartsBuiltAgain
+pub mod Steps

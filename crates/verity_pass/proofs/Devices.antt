@@ -1,0 +1,2 @@
+pub mod StoredBlocks
+pub mod FirstDifferentBlock

@@ -1,0 +1,3 @@
+pub mod OnePass
+pub mod ReadBlocks
+pub mod ComparedPass

@@ -1,0 +1,2 @@
+pub mod TrueChain
+pub mod AcceptedLinks

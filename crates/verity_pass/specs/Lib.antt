@@ -1,0 +1,11 @@
+pub mod Reading
+pub mod Building
+pub mod Verdicts
+pub mod Comparing
+pub mod Paths
+pub mod Links
+pub mod KeptBlocks
+pub mod Collisions
+pub mod FirstDifferentBlock
+pub mod Stores
+pub mod Steps

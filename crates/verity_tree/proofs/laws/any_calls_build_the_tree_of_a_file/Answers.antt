@@ -1,5 +1,0 @@
-use Rattle.verity_tree.proofs.FileTreeCalls.{tree-calls-build}
-use Rattle.verity_tree.proofs.laws.any_calls_build_the_tree_of_a_file.Goals as goal
-
-pub returns : goal.returns
-returns c = tree-calls-build

@@ -1,5 +1,0 @@
-use Rattle.verity_tree.proofs.FileCalls.{pieces-joined}
-use Rattle.verity_tree.proofs.laws.any_pieces_are_the_file.Goals as goal
-
-pub returns : goal.returns
-returns c = λ b after memory room pieces h calls. pieces-joined b after memory room _ pieces h calls

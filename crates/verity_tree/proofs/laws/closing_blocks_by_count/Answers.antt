@@ -1,7 +1,0 @@
-use Rattle.std.proofs.Common.{arith, ◌+◌, ◌^◌}
-use Rattle.std.proofs.Math.Nat.{one-le-pow}
-use Rattle.verity_tree.proofs.ReachedLemmas.{div_ceil-last}
-use Rattle.verity_tree.proofs.laws.closing_blocks_by_count.Goals as goal
-
-pub returns : goal.returns
-returns c = λ fan i l some. omega (arith, div_ceil-last i (fan ^ (l + 1)) (one-le-pow (l + 1) fan some))

@@ -1,7 +1,0 @@
-use Rattle.std.proofs.Common.{◌+◌}
-use Rattle.verity_plan.proofs.FanLemmas.{fan-some}
-use Rattle.verity_tree.proofs.TreeLemmas.{length-blocks_up}
-use Rattle.verity_tree.proofs.laws.levels_have_sizes.Goals as goal
-
-pub returns : goal.returns
-returns c = λ s blocks l. length-blocks_up s blocks (l + 1) (fan-some s)

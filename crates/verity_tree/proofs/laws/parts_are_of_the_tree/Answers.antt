@@ -1,5 +1,0 @@
-use Rattle.verity_tree.proofs.PartLevels.{part-block}
-use Rattle.verity_tree.proofs.laws.parts_are_of_the_tree.Goals as goal
-
-pub returns : goal.returns
-returns c = part-block

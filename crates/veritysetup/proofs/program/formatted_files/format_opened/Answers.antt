@@ -1,5 +1,0 @@
-use Rattle.veritysetup.proofs.ReportLemmas.{PrintsReport-grows}
-use Rattle.veritysetup.proofs.program.formatted_files.format_opened.Goals as goal
-
-pub returns-clause-grows : goal.returns-clause-grows
-returns-clause-grows g c = PrintsReport-grows _ _ _ _ c.format.ensures.printed.2
