@@ -121,13 +121,15 @@ search: programs
 kernel: programs
 	tests/kernel.sh
 
-# Measures the programs beside bare hashing and Debian's programs, and prints the tables of docs/SPEED.md.
+# Measures the programs beside bare hashing and Debian's programs, and prints the tables of docs/SPEED.md. With
+# OTHER=FOLDER, another clone or a copy of its bin/ and lib/, this and the next two also measure what is built there, in
+# turns, and print how many times as fast each row is here as there.
 bench: programs
 	./build.sh bench_bare bench_bare $(CPU)
 	bench/bench.sh
 
-# Measures the library that is fed with pieces of a file beside bin/fsverity, Debian's fsverity and Debian's
-# libfsverity.
+# Measures the library that is fed with pieces of a file, for its digest and for a tree of dm-verity, beside
+# bin/fsverity, Debian's fsverity and Debian's libfsverity.
 bench-feeding: programs library
 	bench/feeding.sh
 
@@ -204,9 +206,10 @@ help:
 	@echo 'make search          30 minutes +  random command lines, for differences from Debian that no row names'
 	@echo '                                   [SECONDS, SEED]'
 	@echo 'make kernel          10 minutes +  has the Linux kernel open the images, in a virtual machine [KERNEL, MODULES]'
-	@echo 'make bench           7 minutes +   measures speed and memory beside bare hashing and Debian programs [SHA=no]'
-	@echo 'make bench-feeding   2 minutes +   measures the library that is fed with pieces of a file'
-	@echo 'make bench-parallel  2 minutes +   measures a tree that is built from parts by threads'
+	@echo 'make bench           7 minutes +   measures speed and memory beside bare hashing and Debian programs'
+	@echo '                                   [SHA=no, OTHER=FOLDER]'
+	@echo 'make bench-feeding   3 minutes +   measures the library that is fed with pieces [OTHER=FOLDER]'
+	@echo 'make bench-parallel  2 minutes +   measures a tree that is built from parts by threads [OTHER=FOLDER]'
 	@echo 'make bench-bindings  1 minute +    measures the bindings of the library beside calls from C'
 	@echo 'make reproducible    5 minutes +   builds once more in another folder, and compares the programs'
 	@echo 'make install         seconds       installs programs, pages and completion, and the library if it is built'

@@ -19,7 +19,7 @@
 #include <sys/wait.h>
 #include <unistd.h>
 
-#include "verity.h"
+#include "libraries.h"
 #ifdef HAS_LIBFSVERITY
 #include <libfsverity.h>
 #endif
@@ -31,7 +31,7 @@ struct way {
     double (*seconds)(const struct way *way, char *digits);
     size_t piece_length;
     const char *program;
-    double least;
+    double least[LIBRARIES];
 };
 
 static const char *file_name;
@@ -84,13 +84,14 @@ static double fed(const struct way *way, char *digits)
     int file = opened();
 
     errno = EINVAL;
-    if (piece == NULL || fsverity_build_memory(&params, &length) != VERITY_OK ||
-        (memory = calloc(1, length)) == NULL || fsverity_build_begin(&params, memory, length) != VERITY_OK)
+    if (piece == NULL || OF_LIBRARY(fsverity_build_memory)(&params, &length) != VERITY_OK ||
+        (memory = calloc(1, length)) == NULL || OF_LIBRARY(fsverity_build_begin)(&params, memory, length) != VERITY_OK)
         give_up("fsverity_build_begin");
     while ((count = read(file, piece, way->piece_length)) > 0)
-        if (fsverity_build_feed(&params, memory, length, piece, (size_t)count) != VERITY_OK)
+        if (OF_LIBRARY(fsverity_build_feed)(&params, memory, length, piece, (size_t)count) != VERITY_OK)
             give_up("fsverity_build_feed");
-    if (count < 0 || fsverity_build_end(&params, memory, length, root, sizeof root, digest, sizeof digest) != VERITY_OK)
+    if (count < 0 || OF_LIBRARY(fsverity_build_end)(&params, memory, length, root, sizeof root, digest,
+                                                    sizeof digest) != VERITY_OK)
         give_up("fsverity_build_end");
     close(file);
     free(memory);
@@ -168,8 +169,8 @@ static void measure(struct way *way)
         fprintf(stderr, "%s: the digest is %s, and of another way %s\n", way->name, digits, expected);
         exit(1);
     }
-    if (way->least == 0 || seconds < way->least)
-        way->least = seconds;
+    if (way->least[library] == 0 || seconds < way->least[library])
+        way->least[library] = seconds;
 }
 
 int main(int count, char **words)
@@ -194,11 +195,17 @@ int main(int count, char **words)
     ways[ways_count++] = (struct way){.name = "Debian's libfsverity", .seconds = computed};
 #endif
     for (round = 0; round < rounds; round++)
-        for (i = 0; i < ways_count; i++)
-            measure(&ways[round % 2 == 0 ? i : ways_count - 1 - i]);
-    printf("| Way | MiB per second | times the last one's speed |\n|---|--:|--:|\n");
-    for (i = 0; i < ways_count; i++)
-        printf("| %s | %.0f | %.2f |\n", ways[i].name, (double)found.st_size / ways[i].least / (1 << 20),
-               ways[ways_count - 1].least / ways[i].least);
+        for (i = 0; i < LIBRARIES * ways_count; i++)
+            measure(&ways[way_at(i, round, ways_count)]);
+    for (library = 0; library < LIBRARIES; library++) {
+        print_library();
+        printf("| Way | MiB per second | times the last one's speed |" BESIDE_HEAD "\n|---|--:|--:|" BESIDE_RULE "\n");
+        for (i = 0; i < ways_count; i++) {
+            printf("| %s | %.0f | %.2f |", ways[i].name, (double)found.st_size / ways[i].least[library] / (1 << 20),
+                   ways[ways_count - 1].least[library] / ways[i].least[library]);
+            print_beside(ways[i].least);
+            printf("\n");
+        }
+    }
     return 0;
 }

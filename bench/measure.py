@@ -1,7 +1,8 @@
 """Measures the programs in bin/ beside Debian's, as bench/bench.sh says: python3 bench/measure.py SCRATCH-FOLDER.
 
 What counts is the processor's time, in the program and in the system for it, so that what else runs disturbs little; and
-of each command the least time of all rounds. In a round each command runs once, and every other round goes backwards.
+of each command the least time of all rounds. In a round each command runs once, by one program right after the other,
+and every other round goes backwards.
 """
 
 import os
@@ -18,6 +19,11 @@ SALT = "07" * 32
 BLOCKS = [(name, size) for name in ("sha256", "sha512", "sha1") for size in (512, 4096, 16384, 65536, 262144)]
 OURS = {name: os.path.abspath(f"bin/{name}") for name in ("fsverity", "veritysetup", "bench_bare")}
 DEBIANS = {name: name for name in ("fsverity", "veritysetup")}
+PROGRAMS = {"here": OURS, "Debian's": DEBIANS}
+OTHER = os.environ.get("OTHER")
+if OTHER:
+    others = {name: os.path.abspath(f"{OTHER}/bin/{name}") for name in OURS}
+    PROGRAMS["OTHER's"] = {name: program for name, program in others.items() if os.path.exists(program)}
 
 
 def at(name):
@@ -37,9 +43,9 @@ def seconds(words):
 
 def least(commands):
     """Returns the least time of each command of a dictionary; one that writes an image at `made` makes it anew."""
-    best = dict.fromkeys(commands, float("inf"))
+    best = dict.fromkeys(sorted(commands, key=lambda name: name[:-1]), float("inf"))
     for turn in range(ROUNDS):
-        for name in list(commands)[:: 1 - turn % 2 * 2]:
+        for name in list(best)[:: 1 - turn % 2 * 2]:
             if os.path.exists(at("made")):
                 os.remove(at("made"))
             best[name] = min(best[name], seconds(commands[name]))
@@ -52,19 +58,19 @@ def format_words(program, function, block, image):
 
 
 def block_commands(function, block):
-    """The commands over blocks of one size. Both programs verify one image, of which this makes the root hash."""
+    """The commands over blocks of one size. All programs verify one image, of which this makes the root hash."""
     image = at(f"{function}.{block}")
     report = subprocess.run(format_words(OURS["veritysetup"], function, block, image), capture_output=True, text=True, check=True)
     root = re.search(r"^Root hash:\s*(\w+)$", report.stdout, re.M)[1]
     found = {}
-    for who, programs in (("here", OURS), ("Debian's", DEBIANS)):
+    for who, programs in PROGRAMS.items():
         found["format", who] = format_words(programs["veritysetup"], function, block, at("made"))
         found["verify", who] = [programs["veritysetup"], "verify", at("data"), image, root]
         words = ["digest", f"--hash-alg={function}", f"--block-size={block}", f"--salt={SALT}", at("data")]
         if function != "sha1":
             found["digest", who] = [programs["fsverity"], *words]
-    for way in ("crates", "alone"):
-        found[way, "here"] = [OURS["bench_bare"], way, function, str(block), at("data")]
+        for way in ("crates", "alone") if "bench_bare" in programs else ():
+            found[way, who] = [programs["bench_bare"], way, function, str(block), at("data")]
     return {(function, block, *name): words for name, words in found.items()}
 
 
@@ -74,6 +80,12 @@ def table(heads, rows):
     print(f"|{'|'.join('--:' if it.endswith(':') else '---' for it in heads)}|")
     for row in rows:
         print(f"| {' | '.join(row)} |")
+
+
+def beside(best, *name):
+    """How many times as fast a command of this name is here as by the programs in OTHER, if there are both."""
+    here, other = (best.get((*name, who)) for who in ("here", "OTHER's"))
+    return f"{other / here:.2f}" if here and other else ""
 
 
 def throughput():
@@ -90,6 +102,10 @@ def throughput():
             row.append(f"{SIZE / here:.0f} ({other / here:.2f})" if here else "")
         rows.append(row)
     table(["Function", "Block:", "bare:", "alone:", "format:", "verify:", "digest:"], rows)
+    if OTHER:
+        ways = ("crates", "alone", "format", "verify", "digest")
+        rows = [[name, str(size), *(beside(best, name, size, way) for way in ways)] for name, size in BLOCKS]
+        table(["Times OTHER's speed", "Block:", "bare:", "alone:", "format:", "verify:", "digest:"], rows)
 
 
 def files(folder, count, length):
@@ -106,7 +122,7 @@ def small():
     few, long, many = files("few", FILES, 1000), files("long", FILES, 20000), files("many", 20 * FILES // 3, 500)
     open(at("empty"), "w", encoding="ascii").close()
     commands = {}
-    for who, programs in (("here", OURS), ("Debian's", DEBIANS)):
+    for who, programs in PROGRAMS.items():
         digest = [programs["fsverity"], "digest"]
         commands[f"`fsverity digest`, {len(few)} files of 1000 bytes", who] = [*digest, *few]
         commands[f"`fsverity digest`, {len(long)} files of 20000 bytes", who] = [*digest, *long]
@@ -119,7 +135,10 @@ def small():
     for name in dict.fromkeys(name for name, _ in commands):
         here, other = (best[name, who] * 1000 for who in ("here", "Debian's"))
         rows.append([name, f"{here:.2f}", f"{other:.2f}", f"{other / here:.2f}"])
-    table(["Milliseconds of processor time", "here:", "Debian's:", "Debian's / here:"], rows)
+        if OTHER:
+            rows[-1].append(beside(best, name))
+    heads = ["Milliseconds of processor time", "here:", "Debian's:", "Debian's / here:", "OTHER's / here:"]
+    table(heads[: len(rows[0])], rows)
 
 
 def peak(words):
@@ -139,21 +158,23 @@ def memory():
     rows = []
     for command in ("format", "digest"):
         row = [f"`veritysetup {command}`" if command == "format" else f"`fsverity {command}`"]
-        for programs in (OURS, DEBIANS):
+        for programs in PROGRAMS.values():
             for data in (at("little"), at("much")):
                 if command == "format":
                     row.append(peak([programs["veritysetup"], command, "--salt=-", data, at("made")]))
                 else:
                     row.append(peak([programs["fsverity"], command, data]))
         rows.append(row)
-    table(["Peak memory, KiB", "here, 1 MiB of data:", "here, 1 GiB:", "Debian's, 1 MiB:", "Debian's, 1 GiB:"], rows)
+    heads = ["Peak memory, KiB", "here, 1 MiB of data:", "here, 1 GiB:", "Debian's, 1 MiB:", "Debian's, 1 GiB:"]
+    heads += ["OTHER's, 1 MiB:", "OTHER's, 1 GiB:"]
+    table(heads[: len(rows[0])], rows)
     name = "a-name-of-25-characters__"
     with open(at(name), "w", encoding="ascii") as it:
         it.write("a")
     counts = (1, 10000, 50000)
     rows = [
         [f"`fsverity digest`, {who}"] + [peak([programs["fsverity"], "digest", *[name] * count]) for count in counts]
-        for who, programs in (("here", OURS), ("Debian's", DEBIANS))
+        for who, programs in PROGRAMS.items()
     ]
     table(["Peak memory, KiB", "one name:", "10,000 names of 25 characters:", "50,000 names:"], rows)
 
@@ -175,8 +196,8 @@ def surroundings():
     if WITHOUT_SHA and "sha_ni" in flags:
         sha += ", from which Debian's programs are kept"
     built = set()
-    for program in OURS:
-        with open(f"bin/{program}.made", encoding="ascii") as it:
+    for program in (*OURS.values(), *PROGRAMS.get("OTHER's", {}).values()):
+        with open(f"{program}.made", encoding="ascii") as it:
             built.add(it.readline().strip())
     print(f"Programs built for {' and '.join(sorted(built))}, on one core of an {name[1] if name else 'unknown processor'},")
     print(f"{avx2} and {sha}, beside veritysetup {version('veritysetup')} and fsverity {version('fsverity')}:")

@@ -1,7 +1,8 @@
 """Measures a tree that is built by threads, as bench/parallel.sh says: python3 bench/parallel.py SCRATCH-FOLDER.
 
 What counts is the time that passes, from the start of the first process to the end of the last. In a round each command
-runs once, and of each the middle of all rounds counts: so what else runs disturbs all of them alike.
+runs once, every other round goes backwards, and of each the middle of all rounds counts: so what else runs disturbs all
+of them alike.
 """
 
 import os
@@ -17,6 +18,8 @@ SALT, UUID = "07" * 32, "12345678-1234-4234-8234-123456789abc"
 DATA = f"{SCRATCH}/data"
 MEBIBYTES = os.path.getsize(DATA) / 2**20
 PARALLEL = f"{SCRATCH}/parallel_format"
+OTHER = os.environ.get("OTHER")
+OTHERS = {PARALLEL: f"{SCRATCH}/other_format", "bin/veritysetup": f"{OTHER}/bin/veritysetup"}
 
 
 def seconds(commands):
@@ -37,6 +40,12 @@ def by_program(program):
     return [program, "format", f"--salt={SALT}", f"--uuid={UUID}", DATA, f"{SCRATCH}/program"]
 
 
+def in_turns(name, words):
+    """A way, and after it the same by what is built in OTHER, if there is one."""
+    others = {(name, "OTHER"): [[OTHERS[words[0]], *words[1:]]]} if OTHER else {}
+    return {name: [words], **others}
+
+
 def threads(count):
     return f"{count} threads" if count > 1 else "1 thread"
 
@@ -46,14 +55,15 @@ def show(what, rate, *times):
 
 
 def main():
-    ways = {"bin/veritysetup format": [by_program("bin/veritysetup")], "Debian's": [by_program("veritysetup")]}
+    ways = in_turns("bin/veritysetup format", by_program("bin/veritysetup"))
+    ways["Debian's"] = [by_program("veritysetup")]
     for count in THREADS:
-        ways[threads(count)] = [by_threads(count, "one")]
+        ways.update(in_turns(threads(count), by_threads(count, "one")))
         ways[f"{count} runs"] = [by_threads(1, f"run{i}") for i in range(count)]
     taken = {name: [] for name in ways}
-    for _ in range(ROUNDS):
-        for name, commands in ways.items():
-            taken[name].append(seconds(commands))
+    for turn in range(ROUNDS):
+        for name in list(ways)[:: 1 - turn % 2 * 2]:
+            taken[name].append(seconds(ways[name]))
     rate = {name: MEBIBYTES * len(ways[name]) / statistics.median(times) for name, times in taken.items()}
     print("| Way | MiB per second | times bin/veritysetup's | times Debian's | times as many runs side by side |")
     print("|---|--:|--:|--:|--:|")
@@ -65,6 +75,11 @@ def main():
         # Of each round the two are compared, since what else runs changes from one to the next.
         ratio = statistics.median(side / (count * own) for own, side in zip(taken[name], taken[f"{count} runs"]))
         show(name, rate[name], rate[name] / ours, rate[name] / theirs, ratio)
+    if OTHER:
+        print("\n| Way | times OTHER's speed |\n|---|--:|")
+        for name in ("bin/veritysetup format", *map(threads, THREADS)):
+            ratio = statistics.median(other / own for own, other in zip(taken[name], taken[name, "OTHER"]))
+            print(f"| {name} | {ratio:.2f} |")
     joining()
 
 

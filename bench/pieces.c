@@ -3,15 +3,16 @@
  *
  *     pieces ROUNDS FILE
  *
- * Nothing is read while time is taken: the bytes of FILE stand in memory. The first table is of their fs-verity digest
- * in blocks of 4096 bytes, for pieces of several lengths. In pieces of one byte only the first 64th of them is fed. If
- * this was built with HAS_LIBFSVERITY, libfsverity has the same bytes, which a callback copies for it. The second table
- * is of fsverity_build_begin alone, and of the whole digest of a file of 1000 bytes, in memory that was used before:
- * the mean over many.
+ * Nothing is read while time is taken: the whole blocks of FILE stand in memory. The first table is of their fs-verity
+ * digest in blocks of 4096 bytes, for pieces of several lengths, and of their tree of dm-verity, whose hash blocks are
+ * taken and written nowhere. In pieces of one byte only the first 64th of them is fed. If this was built with
+ * HAS_LIBFSVERITY, libfsverity has the same bytes, which a callback copies for it. The second table is of
+ * fsverity_build_begin alone, and of the whole digest of a file of 1000 bytes, in memory that was used before: the mean
+ * over many.
  *
  * What counts is the processor's time, in the program and in the system for it, and the least of all rounds. In each
  * round all is measured one after another, and in every other round backwards. All digests of the same bytes by one
- * hash function have to be the same.
+ * hash function have to be the same; a tree of dm-verity without salt has the root hash of the file's tree.
  */
 #define _POSIX_C_SOURCE 200809L
 #include <stdio.h>
@@ -19,12 +20,12 @@
 #include <string.h>
 #include <time.h>
 
-#include "verity.h"
+#include "libraries.h"
 #ifdef HAS_LIBFSVERITY
 #include <libfsverity.h>
 #endif
 
-enum { BLOCK_SIZE = 4096, SHORT_LENGTH = 1000, REPEATS = 5000, HASHES = 2, MOST_WAYS = 24 };
+enum { BLOCK_SIZE = 4096, SHORT_LENGTH = 1000, REPEATS = 5000, HASHES = 2, MOST_WAYS = 40 };
 
 static const size_t piece_lengths[] = {1, 64, 512, 4096, 8192, 32767, 1 << 16, 1 << 20};
 enum { PIECES = sizeof piece_lengths / sizeof *piece_lengths };
@@ -42,7 +43,7 @@ struct way {
     uint32_t hash_algorithm;
     size_t piece_length;
     int repeats;
-    double least; /* seconds each */
+    double least[LIBRARIES]; /* seconds each */
 };
 
 static uint8_t *data, *memory;
@@ -74,7 +75,7 @@ static struct fsverity_params begin(const struct way *way)
 {
     struct fsverity_params params = {.hash_algorithm = way->hash_algorithm, .block_size = BLOCK_SIZE};
 
-    if (fsverity_build_begin(&params, memory, memory_lengths[way->hash_algorithm - 1]) != VERITY_OK)
+    if (OF_LIBRARY(fsverity_build_begin)(&params, memory, memory_lengths[way->hash_algorithm - 1]) != VERITY_OK)
         give_up("fsverity_build_begin");
     return params;
 }
@@ -85,6 +86,14 @@ static void begun(const struct way *way, uint8_t *digest)
     begin(way);
 }
 
+/* The length of the piece that begins at a byte. */
+static size_t length_at(const struct way *way, size_t at)
+{
+    size_t left = way->part->length - at;
+
+    return left < way->piece_length ? left : way->piece_length;
+}
+
 static void fed(const struct way *way, uint8_t *digest)
 {
     struct fsverity_params params = begin(way);
@@ -93,14 +102,47 @@ static void fed(const struct way *way, uint8_t *digest)
     uint8_t root[VERITY_MAX_DIGEST_SIZE];
 
     for (at = 0; at < way->part->length; at += length) {
-        length = way->part->length - at;
-        if (length > way->piece_length)
-            length = way->piece_length;
-        if (fsverity_build_feed(&params, memory, memory_length, data + at, length) != VERITY_OK)
+        length = length_at(way, at);
+        if (OF_LIBRARY(fsverity_build_feed)(&params, memory, memory_length, data + at, length) != VERITY_OK)
             give_up("fsverity_build_feed");
     }
-    if (fsverity_build_end(&params, memory, memory_length, root, digest_size, digest, digest_size) != VERITY_OK)
+    if (OF_LIBRARY(fsverity_build_end)(&params, memory, memory_length, root, digest_size, digest, digest_size) !=
+        VERITY_OK)
         give_up("fsverity_build_end");
+}
+
+/* Builds the tree of dm-verity, and makes the file's digest of its root hash. */
+static void tree_fed(const struct way *way, uint8_t *digest)
+{
+    struct verity_params params = {.hash_algorithm = way->hash_algorithm,
+                                   .hash_type = 1,
+                                   .data_block_size = BLOCK_SIZE,
+                                   .hash_block_size = BLOCK_SIZE,
+                                   .data_blocks = way->part->length / BLOCK_SIZE};
+    struct fsverity_params file = {
+        .hash_algorithm = way->hash_algorithm, .block_size = BLOCK_SIZE, .size = way->part->length};
+    size_t digest_size = digest_size_of(way->hash_algorithm), memory_length, at, length;
+    struct verity_build build;
+    struct verity_fed fed;
+    uint8_t root[VERITY_MAX_DIGEST_SIZE];
+
+    if (OF_LIBRARY(verity_build_memory)(&params, &memory_length) != VERITY_OK ||
+        memory_length > memory_lengths[way->hash_algorithm - 1] ||
+        OF_LIBRARY(verity_build_begin)(&params, &build, memory, memory_length) != VERITY_OK)
+        give_up("verity_build_begin");
+    for (at = 0; at < way->part->length;) {
+        length = length_at(way, at);
+        do {
+            if (OF_LIBRARY(verity_build_feed)(&params, &build, memory, memory_length, data + at, length, &fed) !=
+                VERITY_OK)
+                give_up("verity_build_feed");
+            at += fed.taken;
+            length -= fed.taken;
+        } while (fed.block_length > 0);
+    }
+    if (OF_LIBRARY(verity_build_end)(&params, &build, memory, memory_length, root, digest_size) != VERITY_OK ||
+        OF_LIBRARY(fsverity_file_digest)(&file, root, digest_size, digest, digest_size) != VERITY_OK)
+        give_up("verity_build_end");
 }
 
 #ifdef HAS_LIBFSVERITY
@@ -164,18 +206,19 @@ static void measure(struct way *way)
                 (unsigned)way->hash_algorithm);
         exit(1);
     }
-    if (way->least == 0 || seconds < way->least)
-        way->least = seconds;
+    if (way->least[library] == 0 || seconds < way->least[library])
+        way->least[library] = seconds;
 }
 
 /* Adds a way for each hash function, one beside the other. */
-static void add_both(const char *name, const struct part *part, size_t piece_length)
+static void add_both(const char *name, void (*find)(const struct way *way, uint8_t *digest), const struct part *part,
+                     size_t piece_length)
 {
     uint32_t hash;
 
     for (hash = VERITY_SHA256; hash <= VERITY_SHA512; hash++)
         ways[ways_count++] = (struct way){.name = name,
-                                          .find = piece_length == 0 ? found_by_other : fed,
+                                          .find = find,
                                           .part = part,
                                           .hash_algorithm = hash,
                                           .piece_length = piece_length,
@@ -184,15 +227,17 @@ static void add_both(const char *name, const struct part *part, size_t piece_len
 
 static void add_ways(const struct part *whole, const struct part *some)
 {
-    static char names[PIECES][24];
+    static char names[2 * PIECES][48];
+    size_t length;
     int i;
 
-    for (i = 0; i < PIECES; i++) {
-        snprintf(names[i], sizeof names[i], "%zu", piece_lengths[i]);
-        add_both(names[i], piece_lengths[i] == 1 ? some : whole, piece_lengths[i]);
+    for (i = 0; i < 2 * PIECES; i++) {
+        length = piece_lengths[i % PIECES];
+        snprintf(names[i], sizeof names[i], i < PIECES ? "%zu" : "%zu, `verity_build_feed`", length);
+        add_both(names[i], i < PIECES ? fed : tree_fed, length == 1 ? some : whole, length);
     }
     if (HAS_OTHER)
-        add_both("libfsverity", whole, 0);
+        add_both("libfsverity", found_by_other, whole, 0);
 }
 
 static void add_short_ways(const struct part *part)
@@ -214,18 +259,20 @@ static void add_short_ways(const struct part *part)
 
 static double speed_of(const struct way *way)
 {
-    return (double)way->part->length / way->least / (1 << 20);
+    return (double)way->part->length / way->least[library] / (1 << 20);
 }
 
-/* The last rows are pieces of 1 MiB, and libfsverity if it is there. */
+/* Pieces of a file, then those of a tree of dm-verity, and libfsverity if it is there. The last pieces have 1 MiB. */
 static void print_pieces(int count)
 {
-    const struct way *pieces = &ways[HASHES * (PIECES - 1)], *other = pieces + HASHES;
+    const struct way *pieces, *other = &ways[HASHES * 2 * PIECES];
     int i, hash;
 
-    printf("| Bytes a piece | SHA-256, MiB per second | times 1 MiB's | times libfsverity's "
-           "| SHA-512 | times 1 MiB's | times libfsverity's |\n|---|--:|--:|--:|--:|--:|--:|\n");
+    printf("| Bytes a piece | SHA-256, MiB per second | times 1 MiB's | times libfsverity's |" BESIDE_HEAD
+           " SHA-512 | times 1 MiB's | times libfsverity's |" BESIDE_HEAD
+           "\n|---|--:|--:|--:|" BESIDE_RULE "--:|--:|--:|" BESIDE_RULE "\n");
     for (i = 0; i < count; i += HASHES) {
+        pieces = &ways[HASHES * ((i / HASHES / PIECES == 1 ? 2 : 1) * PIECES - 1)];
         printf("| %s |", ways[i].name);
         for (hash = 0; hash < HASHES; hash++) {
             printf(" %.0f | %.2f |", speed_of(&ways[i + hash]), speed_of(&ways[i + hash]) / speed_of(&pieces[hash]));
@@ -233,6 +280,7 @@ static void print_pieces(int count)
                 printf(" %.2f |", speed_of(&ways[i + hash]) / speed_of(&other[hash]));
             else
                 printf(" - |");
+            print_beside(ways[i + hash].least);
         }
         printf("\n");
     }
@@ -240,9 +288,12 @@ static void print_pieces(int count)
 
 static void print_short(int first)
 {
-    printf("\n| SHA-256, blocks of 4096 | microseconds |\n|---|--:|\n");
-    for (; first < ways_count; first++)
-        printf("| %s | %.2f |\n", ways[first].name, ways[first].least * 1e6);
+    printf("\n| SHA-256, blocks of 4096 | microseconds |" BESIDE_HEAD "\n|---|--:|" BESIDE_RULE "\n");
+    for (; first < ways_count; first++) {
+        printf("| %s | %.2f |", ways[first].name, ways[first].least[library] * 1e6);
+        print_beside(ways[first].least);
+        printf("\n");
+    }
 }
 
 static void take_memory(void)
@@ -286,8 +337,8 @@ int main(int count, char **words)
         return 2;
     }
     take_memory();
-    whole.length = take_data(words[2]);
-    some.length = whole.length / 64;
+    whole.length = take_data(words[2]) / BLOCK_SIZE * BLOCK_SIZE;
+    some.length = whole.length / BLOCK_SIZE / 64 * BLOCK_SIZE;
     if (some.length < SHORT_LENGTH)
         give_up("the file is too short");
     know_digests(&whole);
@@ -297,9 +348,12 @@ int main(int count, char **words)
     large_count = ways_count;
     add_short_ways(&file);
     for (round = 0; round < rounds; round++)
-        for (i = 0; i < ways_count; i++)
-            measure(&ways[round % 2 == 0 ? i : ways_count - 1 - i]);
-    print_pieces(large_count);
-    print_short(large_count);
+        for (i = 0; i < LIBRARIES * ways_count; i++)
+            measure(&ways[way_at(i, round, ways_count)]);
+    for (library = 0; library < LIBRARIES; library++) {
+        print_library();
+        print_pieces(large_count);
+        print_short(large_count);
+    }
     return 0;
 }
