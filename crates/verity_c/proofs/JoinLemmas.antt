@@ -1,30 +1,32 @@
 -- What the builder of a join has answered is what the library for C says of it.
-use Rattle.std.proofs.Common.{◌≡◌, ◌∙◌, ◌<◌, ◌≤◌, ◌+◌, ◌-◌, ◌^◌, ℕ, false, true, List, Option, Some, None, Result, Ok}
-use Rattle.std.proofs.Common.{IfOk, arith, ap, inl, inr, refl, subst, sym}
+use Rattle.std.proofs.Common.{◌≡◌, ◌≢◌, ◌∙◌, ◌<◌, ◌≤◌, ◌+◌, ◌-◌, ◌^◌, ℕ, false, true, List, Option, Some, None, Result}
+use Rattle.std.proofs.Common.{Ok, arith, ap, inl, inr, refl, rules, subst, sym}
 use Rattle.std.proofs.Math.Nat.{one-le-pow, zero-div, zero-mod}
 use Rattle.std.proofs.lemmas.Bool.Decides.{nat_tests}
 use Rattle.std.proofs.lemmas.Bool.{cases_lt}
-use Rattle.std.specs.Prelude.{◌==◌, ◌||◌, ◌*◌, ◌/◌, ◌%◌, MatchOption, nat_lt}
+use Rattle.std.specs.Prelude.{◌==◌, ◌||◌, ◌*◌, ◌/◌, ◌%◌, MatchOption}
 use Rattle.verity_plan.specs.Plans.{IsPlan, PlanFields, start_byte_of}
 use Rattle.verity_plan.specs.PlanCounts.{level_count_of, count_under}
 use Rattle.verity_plan.specs.Settings.{digest_len, fan}
-use Rattle.verity_plan.proofs.CountLemmas.{div_ceil-pos, mul_le}
+use Rattle.verity_plan.proofs.CountLemmas.{div_ceil-pos}
 use Rattle.verity_plan.proofs.FanLemmas.{fan-some}
 use Rattle.verity_plan.proofs.PlanLemmas.{blocks-some}
-use Rattle.verity_builders.specs.Parts.{AreDigests, IsHandedOutOfJoin, IsJoined, IsPlacedOfJoin, Joins, TakesOfJoin}
+use Rattle.verity_builders.specs.Feeding.{given}
+use Rattle.verity_builders.specs.Parts.{AreDigests, IsJoined, IsPlacedOfJoin, Joins, TakesOfJoin}
 use Rattle.verity_builders.specs.Parts.{HasLastOfJoin, digests_fault, part_fault}
 use Rattle.verity_builders.specs.declared.join_builder.JoinBuilder.{JoinBuilder}
 use Rattle.verity_builders.specs.declared.part_builder.PartFault.{PartFault}
 use Rattle.verity_builders.specs.declared.tree_builder.Fed.{Fed}
 use Rattle.verity_blocks.specs.declared.hash_block.HashBlock.{HashBlock}
-use Rattle.verity_c_api.specs.Building.{fed_by, fed_of}
-use Rattle.verity_c_api.specs.Parts.{AreNextDigests, HandsOutOfJoin, IsJoinedTo, StandsLastOfJoin, TakesDigests}
+use Rattle.verity_c_api.specs.Building.{block_of, fed_by, fed_of}
+use Rattle.verity_c_api.specs.Parts.{AreNextDigests, HandsOutOfJoin, IsJoinedTo, TakesDigests}
 use Rattle.verity_c_api.specs.Parts.{join_builder_of, last_index_of_join, last_of_join, last_of_join_in, with_digests}
 use Rattle.verity_c_api.specs.Parts.{with_parts}
 use Rattle.verity_c_api.specs.Answers.{value_or}
 use Rattle.verity_c_api.specs.declared.build.VerityFed.{VerityFed}
 use Rattle.verity_c_api.specs.declared.build.VerityJoin.{VerityJoin}
 use Rattle.verity_c_api.specs.declared.fault.Fault.{Fault}
+use Rattle.verity_c_api.proofs.AnswerLemmas.{list-said, says-of, within-said}
 
 -- the numbers of a builder, of which with its plan it is made
 abbrev pub join_of : JoinBuilder → VerityJoin
@@ -46,124 +48,44 @@ no-part_fault p level fault planned low is =
 pub IsJoinedTo-at : (plan : Result PlanFields Fault) (p : PlanFields) (join : VerityJoin) (b : JoinBuilder)
     (memory bytes : List ℕ) → plan ≡ Ok p → b ≡ join_builder_of p join → IsJoinedTo plan join memory bytes
     → IsJoined b memory bytes
-IsJoinedTo-at plan p join b memory bytes made says h =
-    subst (λ (a : JoinBuilder). IsJoined a memory bytes) (sym says)
-    (subst (λ (r : Result PlanFields Fault). IsJoinedTo r join memory bytes) made h)
+IsJoinedTo-at plan p join b memory bytes made says h = rw says (rw made at h)
 
 pub IsJoinedTo-of : (plan : Result PlanFields Fault) (p : PlanFields) (b : JoinBuilder) (memory bytes : List ℕ)
     → plan ≡ Ok p → b.plan ≡ p → IsJoined b memory bytes → IsJoinedTo plan (join_of b) memory bytes
-IsJoinedTo-of plan p b memory bytes made is h =
-    subst (λ (r : Result PlanFields Fault). IsJoinedTo r (join_of b) memory bytes) (sym made)
-    (subst (λ (a : JoinBuilder). IsJoined a memory bytes) (join_builder_of-parts p b is) h)
+IsJoinedTo-of plan p b memory bytes made is h = rw made (rw (join_builder_of-parts p b is) at h)
 
 -- the digests that come next, by the builder
 pub AreNextDigests-at : (plan : Result PlanFields Fault) (p : PlanFields) (join : VerityJoin) (b : JoinBuilder)
     (digests bytes : List ℕ) → plan ≡ Ok p → b ≡ join_builder_of p join → AreNextDigests plan join digests bytes
     → AreDigests b.plan b.level b.taken digests bytes
-AreNextDigests-at plan p join b digests bytes made says h =
-    subst (λ (a : JoinBuilder). AreDigests a.plan a.level a.taken digests bytes) (sym says)
-    (subst (λ (r : Result PlanFields Fault). AreNextDigests r join digests bytes) made h)
+AreNextDigests-at plan p join b digests bytes made says h = rw says (rw made at h)
 
 -- how many digests were taken, in the numbers of the struct
-TakesDigests-by : (p : PlanFields) (before : VerityJoin) (after : JoinBuilder) (count taken : ℕ)
-    (closed : Option HashBlock) → 0 < p.settings.hash_block
-    → TakesOfJoin (join_builder_of p before) after count (record { taken = taken; hash_block = closed })
-    → TakesDigests p before (join_of after) count (fed_by p.settings.hash_block taken closed)
-TakesDigests-by p before after count taken None some h = record {
-  level_is = h.level_is;
-  taken_is = h.taken_is;
-  whole = h.whole;
-  most = h.most;
-  block_length = inl refl;
-  none = λ _. refl;
-  all = λ _. h.all refl;
-  done = λ _. h.done refl;
-  placed = λ some_block. absurd (some_block refl);
-  within = omega arith;
-  rises = λ some_block. absurd (some_block refl);
-}
-TakesDigests-by p before after count taken (Some block) some h =
-    let moved : IsPlacedOfJoin (join_builder_of p (join_of after)) block =
-    subst (λ (b : JoinBuilder). IsPlacedOfJoin b block) (join_builder_of-parts p after h.plan_is)
-    (h.placed block refl) in
-    let step : block.level - after.level + 1 ≤ level_count_of p - before.level =
-    omega (arith, moved.level_below, moved.level_least, h.level_is) in
-    record {
-      level_is = h.level_is;
-      taken_is = h.taken_is;
-      whole = h.whole;
-      most = h.most;
-      block_length = inr refl;
-      none = λ zero. absurd (omega (arith, some, zero));
-      all = λ zero. absurd (omega (arith, some, zero));
-      done = λ zero. absurd (omega (arith, some, zero));
-      placed = λ _. moved;
-      within = omega (
-        arith,
-        moved.at_is,
-        mul_le (block.level - after.level + 1) (level_count_of p - before.level) p.settings.hash_block step,
-      );
-      rises = λ _. h.rises block refl;
-    }
+pub TakesDigests-by : (p : PlanFields) (join : VerityJoin) (before after : JoinBuilder) (count : ℕ) (answer : Fed)
+    (fed : VerityFed) → before ≡ join_builder_of p join → fed ≡ fed_of p answer → 0 < p.settings.hash_block
+    → TakesOfJoin before after count answer → TakesDigests p join (join_of after) count fed
+TakesDigests-by p join before after count answer fed says is some h =
+    let said = says-of p answer fed is some in
+    let takes : TakesOfJoin (join_builder_of p join) after count answer = rw says at h in
+    let block = block_of fed in
+    let placed : fed.block_length ≢ 0 → IsPlacedOfJoin (join_builder_of p (join_of after)) block =
+    λ some. rw (join_builder_of-parts p after takes.plan_is) at (takes.placed block (said.some some)) in
+    let within : fed.block_at + fed.block_length ≤ (level_count_of p - join.level) * p.settings.hash_block =
+    rw (← takes.level_is) (within-said (fed.block_level - after.level) (level_count_of p - after.level) said
+    (λ some. let at = placed some in (omega (arith, at.level_below, at.level_least), at.at_is))) in
+    let rises : fed.block_length ≢ 0 → fed.taken ≡ 0 → after.closed ≡ join.closed + 1 =
+    λ some. rw said.taken_is (takes.rises block (said.some some)) in
+    search (rules, said.taken_is, said.none, said.some, takes.all, takes.done, placed, rises)
 
 -- the hash block that is handed out, in the numbers of the struct
-HandsOutOfJoin-by : (p : PlanFields) (before : VerityJoin) (after : JoinBuilder) (bytes memory : List ℕ) (taken : ℕ)
-    (closed : Option HashBlock) → 0 < p.settings.hash_block
-    → Joins (join_builder_of p before) after bytes memory closed
-    → HandsOutOfJoin p before (join_of after) bytes memory (fed_by p.settings.hash_block taken closed)
-HandsOutOfJoin-by p before after bytes memory taken None some h = record {
-  order = h.order;
-  block = λ none. absurd (none refl);
-}
-HandsOutOfJoin-by p before after bytes memory taken (Some block) some h =
-    let stands : (p.settings.hash_block == 0) ≡ false = grind (arith, nat_tests, some) in
-    record {
-      order = rw stands h.order;
-      block = λ _. h.stands block refl;
-    }
-
--- both, of the plan that parameters make
-pub TakesDigests-at : (plan : Result PlanFields Fault) (p : PlanFields) (join : VerityJoin) (before after : JoinBuilder)
-    (count : ℕ) (answer : Fed) (fed : VerityFed) → plan ≡ Ok p → before ≡ join_builder_of p join → fed ≡ fed_of p answer
-    → 0 < p.settings.hash_block → TakesOfJoin before after count answer
-    → IfOk plan (λ q. TakesDigests q join (join_of after) count fed)
-TakesDigests-at plan p join before after count answer fed made says is some h =
-    rw (made, is) (TakesDigests-by p join after count answer.taken answer.hash_block some (rw says at h))
-
-pub HandsOutOfJoin-at : (plan : Result PlanFields Fault) (p : PlanFields) (join : VerityJoin)
-    (before after : JoinBuilder) (bytes memory : List ℕ) (answer : Fed) (fed : VerityFed) → plan ≡ Ok p
-    → before ≡ join_builder_of p join → fed ≡ fed_of p answer → 0 < p.settings.hash_block
-    → Joins before after bytes memory answer.hash_block
-    → IfOk plan (λ q. HandsOutOfJoin q join (join_of after) bytes memory fed)
-HandsOutOfJoin-at plan p join before after bytes memory answer fed made says is some h =
-    rw (made, is)
-    (HandsOutOfJoin-by p join after bytes memory answer.taken answer.hash_block some (rw says at h))
-
--- the hash block that was handed out last, in the numbers of the struct
-StandsLastOfJoin-by : (p : PlanFields) (join : VerityJoin) (bytes memory : List ℕ) (last : Option HashBlock)
-    → 0 < p.settings.hash_block
-    → MatchOption last (join.closed ≡ 0) (λ block. IsHandedOutOfJoin (join_builder_of p join) bytes memory block)
-    → StandsLastOfJoin p join bytes memory (fed_by p.settings.hash_block 0 last)
-StandsLastOfJoin-by p join bytes memory None some h = record {
-  none = λ _. h;
-  block = λ some_block. absurd (some_block refl);
-}
-StandsLastOfJoin-by p join bytes memory (Some block) some h = record {
-  none = λ zero. absurd (omega (arith, some, zero));
-  block = λ _. h;
-}
-
--- it stands in the memory, by the plan that parameters make
-pub StandsLastOfJoin-at : (plan : Result PlanFields Fault) (p : PlanFields) (join : VerityJoin) (b : JoinBuilder)
-    (bytes memory : List ℕ) (last : Option HashBlock) (fed : VerityFed) → plan ≡ Ok p → b ≡ join_builder_of p join
-    → fed ≡ fed_by p.settings.hash_block 0 last → 0 < p.settings.hash_block
-    → MatchOption last (b.closed ≡ 0) (λ block. IsHandedOutOfJoin b bytes memory block)
-    → IfOk plan (λ q. StandsLastOfJoin q join bytes memory fed)
-StandsLastOfJoin-at plan p join b bytes memory last fed made says is some h =
-    subst (λ (r : Result PlanFields Fault). IfOk r (λ q. StandsLastOfJoin q join bytes memory fed)) (sym made)
-    (subst (λ (f : VerityFed). StandsLastOfJoin p join bytes memory f) (sym is)
-    (StandsLastOfJoin-by p join bytes memory last some (subst (λ (a : JoinBuilder).
-    MatchOption last (a.closed ≡ 0) (λ block. IsHandedOutOfJoin a bytes memory block)) says h)))
+pub HandsOutOfJoin-by : (p : PlanFields) (join : VerityJoin) (before after : JoinBuilder) (bytes memory : List ℕ)
+    (answer : Fed) (fed : VerityFed) → before ≡ join_builder_of p join → fed ≡ fed_of p answer
+    → 0 < p.settings.hash_block → Joins before after bytes memory answer.hash_block
+    → HandsOutOfJoin p join (join_of after) bytes memory fed
+HandsOutOfJoin-by p join before after bytes memory answer fed says is some h =
+    let said = says-of p answer fed is some in
+    let joins : Joins (join_builder_of p join) after bytes memory answer.hash_block = rw says at h in
+    search (rules, list-said given said refl refl, said.some, joins.order, joins.stands (block_of fed))
 
 -- what a struct names last, by the numbers of the hash block that its builder names
 last_of_join-placed : (p : PlanFields) (join : VerityJoin) (answer : Option HashBlock)
@@ -201,7 +123,8 @@ pub last_of_join-at : (plan : Result PlanFields Fault) (p : PlanFields) (join : 
     → MatchOption answer (HasLastOfJoin b → ⊥) (λ block. HasLastOfJoin b × IsPlacedOfJoin b block)
     → fed ≡ value_or old (last_of_join_in (with_digests (with_parts plan join.level) join 0) join)
 last_of_join-at plan p join b answer old fed made says is right named =
-    let none : None ≡ digests_fault (join_builder_of p join) 0 = right ∙ ap (λ (a : JoinBuilder). digests_fault a 0) says in
+    let none : None ≡ digests_fault (join_builder_of p join) 0 =
+    right ∙ ap (λ (a : JoinBuilder). digests_fault a 0) says in
     let zero : 0 / digest_len p.settings ≡ 0 = zero-div (digest_len p.settings) in
     let whole : (0 % digest_len p.settings == 0) ≡ true =
     rw (zero-mod (digest_len p.settings)) (grind (arith, nat_tests)) in

@@ -1,9 +1,7 @@
 //! Joining the parts of a tree by their digests: the hash blocks above them, and the root hash.
-ghost use Rattle.std.specs.Prelude.{◌≡◌, ◌≢◌, ◌≤◌, ℕ, List, length, take, IfOk, Ok};
-ghost use Rattle.verity_plan.specs.PlanCounts.{level_count_of};
+ghost use Rattle.std.specs.Prelude.{◌≡◌, ◌≢◌, ℕ, List, length, take, IfOk, Ok};
 ghost use Rattle.verity_plan.specs.Settings.{digest_len};
 ghost use Rattle.verity_blocks.specs.Levels.{data_blocks, root};
-ghost use Rattle.verity_builders.specs.Parts.{counts_none_closed};
 ghost use Rattle.verity_c_api.specs.Answers.{value_or};
 ghost use Rattle.verity_c_api.specs.Building.{root_in};
 ghost use Rattle.verity_c_api.specs.Parameters.{fsverity_plan_of, plan_of};

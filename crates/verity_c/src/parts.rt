@@ -2,7 +2,7 @@
 //! machines as a caller has.
 ghost use Rattle.std.specs.Prelude.{◌≡◌, ◌≢◌, ◌≤◌, ℕ, List, ◌++◌, length, take, IfOk, Ok};
 ghost use Rattle.verity_plan.specs.PlanCounts.{level_count_of};
-ghost use Rattle.verity_builders.specs.Parts.{HasPart, piece_fault, plan_of_part};
+ghost use Rattle.verity_builders.specs.Parts.{HasPart};
 ghost use Rattle.verity_c_api.specs.Answers.{value_or};
 ghost use Rattle.verity_c_api.specs.Parameters.{fsverity_plan_of, plan_of};
 ghost use Rattle.verity_c_api.specs.Parts.{HandsOutOfPart, IsDigestOfFed, IsFedPartTo, StandsLastOfPart};
@@ -14,7 +14,7 @@ use crate::beginning_parts::plan_with_part_memory;
 use crate::files::set_digest;
 use crate::plans::{fsverity_plan_of, plan_of};
 use crate::tree_building::fed_of;
-use verity_builders::{Fed, FeedFault, PartBuilder};
+use verity_builders::{Fed, PartBuilder};
 use verity_c_api::{DONE, Fault, FsverityParams, VerityFed, VerityParams, VerityPart};
 use verity_plan::Plan;
 

@@ -1,5 +1,5 @@
 //! The settings and plans that parameters make.
-ghost use Rattle.std.specs.Prelude.{◌≡◌, ◌≤◌, length, take};
+ghost use Rattle.std.specs.Prelude.{◌≡◌, take};
 ghost use Rattle.verity_c_api.specs.Parameters.{algorithm_of, fsverity_plan_of, fsverity_settings_of, fsverity_tree_of};
 ghost use Rattle.verity_c_api.specs.Parameters.{if_salt_fits, number_of, plan_of, tree_of};
 

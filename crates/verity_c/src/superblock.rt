@@ -1,5 +1,5 @@
 //! Reading a superblock into parameters, and writing it from them.
-ghost use Rattle.std.specs.Prelude.{◌≡◌, ◌≤◌, length, None};
+ghost use Rattle.std.specs.Prelude.{◌≡◌, ◌≤◌, length};
 ghost use Rattle.verity_hash.specs.Hashing.{with_zeros};
 ghost use Rattle.verity_plan.specs.Settings.{most_verity_salt};
 ghost use Rattle.verity_format.specs.CheckedSuperblocks.{superblock_fault};

@@ -2,7 +2,7 @@
 ghost use Rattle.std.specs.Prelude.{◌≡◌};
 ghost use Rattle.verity_c_api.specs.Answers.{value_or};
 ghost use Rattle.verity_c_api.specs.Statuses.{status_of};
-ghost use Rattle.verity_c_api.specs.Texts.{text_length_in, text_of_fault, text_of_status, with_text};
+ghost use Rattle.verity_c_api.specs.Texts.{text_length_in, text_of_status, with_text};
 
 use verity_c_api::{DONE, Fault};
 

@@ -1,3 +1,4 @@
+pub mod AnswerLemmas
 pub mod BuildingLemmas
 mod BuildingLoopLemmas
 mod JoinCallLemmas

@@ -1,4 +1,4 @@
-use Rattle.std.proofs.Common.{◌≡◌, ◌∙◌, ◌+◌, ◌<◌, ◌*◌, ◌-◌, ◌/◌, ◌^◌, ℕ, Option, Some, None, true, false, arith, ap}
+use Rattle.std.proofs.Common.{◌≡◌, ◌∙◌, ◌+◌, ◌*◌, ◌-◌, ◌/◌, ◌^◌, ℕ, Option, Some, None, true, false, arith, ap}
 use Rattle.std.proofs.Common.{inl, inr, refl, sym, zero-add}
 use Rattle.std.proofs.lemmas.Bool.{cases_lt}
 use Rattle.std.proofs.lemmas.Bool.Decides.{nat_tests}
@@ -8,7 +8,8 @@ use Rattle.verity_plan.specs.Settings.{fan}
 use Rattle.verity_blocks.specs.ClosingOrder.{blocks_before}
 use Rattle.verity_builders.specs.Feeding.{HasLast, IsPlaced, feed_fault}
 use Rattle.verity_blocks.specs.declared.hash_block.HashBlock.{HashBlock}
-use Rattle.verity_c_api.proofs.BuildingLemmas.{IsFedTo-at, StandsLast-at}
+use Rattle.verity_c_api.proofs.AnswerLemmas.{match-said, says-of}
+use Rattle.verity_c_api.proofs.BuildingLemmas.{IsFedTo-at}
 use Rattle.verity_c_api.specs.Answers.{value_or}
 use Rattle.verity_c_api.specs.Building.{builder_of, fed_by, last_in, last_index, last_of, with_piece}
 use Rattle.verity_c_api.specs.declared.build.VerityBuild.{VerityBuild}
@@ -17,12 +18,12 @@ use Rattle.verity_c.proofs.tree_building.verity_build_last_block.Goals as goal
 
 pub returns-clause-block : goal.returns-clause-block
 returns-clause-block c = λ memory bytes h _.
-    let p = c.in-Ok.plan in
     let made = sym c.in-Ok.ensures in
-    StandsLast-at c.args.params.now p c.args.build.now bytes memory c.in-Ok-last_block.hash_block c.fed_of.result made
-    c.fed_of.ensures.value c.fed_of.ensures.some
-    (c.in-Ok-last_block.ensures.stands memory bytes
-    (IsFedTo-at c.args.params.now p c.args.build.now memory bytes made h))
+    let fed = IsFedTo-at c.args.params.now _ c.args.build.now memory bytes made h in
+    let both = match-said _ _ (says-of c.in-Ok.plan (record { taken = 0; hash_block = c.in-Ok-last_block.hash_block })
+    c.fed_of.result c.fed_of.ensures.value c.fed_of.ensures.some)
+    (c.in-Ok-last_block.ensures.stands memory bytes fed) in
+    rw made (record { none = both.0; block = both.1 })
 
 -- what a struct names last, by the numbers of the hash block that its builder names
 placed : (p : PlanFields) (build : VerityBuild) (answer : Option HashBlock) → None ≡ feed_fault (builder_of p build) 0
