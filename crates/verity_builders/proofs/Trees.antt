@@ -1,1 +1,2 @@
+pub mod MemoryLengths
 pub mod TreeMemory

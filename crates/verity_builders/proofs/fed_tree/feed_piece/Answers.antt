@@ -18,6 +18,15 @@ most c =
       c.in_default.ensures.none,
     )
 
+-- no more levels had closed than there are
+had : (c : After-feed_until_closed-taken) → c.args.progress.now.closed ≤ c.args.levels
+had c =
+    omega (
+      arith,
+      c.in_default.ensures.none,
+      most_closed-le c.args.own.now c.args.levels c.args.progress.now.fed c.requires.tree.own_levels,
+    )
+
 pub handed_out-requires-clause-below : goal.handed_out-requires-clause-below
 handed_out-requires-clause-below c =
     let some = (c.feed_until_closed-taken.ensures.closes c.if-closes.true).1 in
@@ -89,12 +98,7 @@ returns-then-closes-clause-fed c = λ fed h.
     record {
       is_fed = is_fed at fed h;
       fed_most = most at;
-      had_closed = omega (
-        arith,
-        c.in_default.ensures.none,
-        most_closed-le c.args.own.now c.args.levels c.args.progress.now.fed
-            c.requires.tree.own_levels,
-      );
+      had_closed = had at;
       has_closed = c.feed_until_closed-taken.ensures.closed;
       order = rw (has at fed h.count, h.count) at on.order;
     }
@@ -106,12 +110,7 @@ returns-else-closes-clause-fed c = λ fed h.
     record {
       is_fed = is_fed at fed h;
       fed_most = most at;
-      had_closed = omega (
-        arith,
-        c.in_default.ensures.none,
-        most_closed-le c.args.own.now c.args.levels c.args.progress.now.fed
-            c.requires.tree.own_levels,
-      );
+      had_closed = had at;
       has_closed = c.feed_until_closed-taken.ensures.closed;
       order = (rw (has at fed h.count, h.count) at on.order) ∙ sym (append-nil _);
     }
