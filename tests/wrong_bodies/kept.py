@@ -1,5 +1,6 @@
 """The verdicts that are kept in the repository, each with a sum of all that it was judged by."""
 
+import functools
 import hashlib
 import json
 import os
@@ -20,6 +21,9 @@ class Sums:
 
     def __init__(self, crates, toolchain):
         self.listed, self.reach = crates.listed, Reach(crates)
+        # Many bodies rest on the same texts: what each of these reaches is worked out once.
+        for name in ("of_statement", "of_code", "named_in_antt"):
+            setattr(self.reach, name, functools.cache(getattr(self.reach, name)))
         self.judged_by = [toolchain, *(text_of(f"{HERE}/{it}.py") for it in JUDGES)]
 
     def of(self, body, changes, verdict):
