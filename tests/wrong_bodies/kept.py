@@ -21,8 +21,8 @@ class Sums:
 
     def __init__(self, crates, toolchain):
         self.listed, self.reach = crates.listed, Reach(crates)
-        # Many bodies rest on the same texts: what each of these reaches is worked out once.
         for name in ("of_statement", "of_code", "named_in_antt"):
+            # Many bodies rest on the same texts, each of which is read once.
             setattr(self.reach, name, functools.cache(getattr(self.reach, name)))
         self.judged_by = [toolchain, *(text_of(f"{HERE}/{it}.py") for it in JUDGES)]
 

@@ -10,7 +10,7 @@ small_repository() {
     mkdir -p "$1/tests/wrong_bodies" "$crate"/{src/out,proofs/{as_many,two_more},wrong-bodies} \
         "$1"/crates/{few/specs,few/src,small_tests/src}
     cp tests/wrong_bodies/*.py "$1/tests/wrong_bodies"
-    sed -i 's/^MOST_CHANGES = .*/MOST_CHANGES = 3/' "$1/tests/wrong_bodies/wrong_bodies.py"
+    sed -i 's/^MOST_CHANGES = .*/MOST_CHANGES = 8/' "$1/tests/wrong_bodies/wrong_bodies.py"
     cp HANDLES "$1"
     lines "$1/crates.txt" 'few:' 'small: few' 'small_tests: small'
     cat >"$1/crates/few/src/lib.rt" <<'END'
@@ -326,8 +326,7 @@ END
 # small_lines: what the script has to say of them: a piece of each line but the last one.
 small_lines() {
     printf 'FAILED small %s: crates/small/wrong-bodies/lib.edit:\n' does_not_fit has_no_right_twin its_twin_has_another_shape \
-        two_functions names_no_function comment_in_place_of_code \
-        words_of_the_contracts contract_of_two_more
+        two_functions names_no_function comment_in_place_of_code words_of_the_contracts contract_of_two_more
     cat <<'END'
 refused small adds_two: one_more: 
 refused small one_less_is_given: out::given: returns

@@ -73,11 +73,9 @@ def main(top):
         if void != sorted(before if expected is None else expected):
             wrong += 1
             print(f"{what}: void are {void}, expected {expected}")
-    judges = kept.JUDGES
-    kept.JUDGES = judges[1:]
-    for what, after in (("the tool", sums_of(top)), ("the toolchain", sums_of(top, "another toolchain"))):
-        if what == "the tool":
-            kept.JUDGES = judges
+    judges, kept.JUDGES = kept.JUDGES, kept.JUDGES[1:]
+    by_another_tool, kept.JUDGES = sums_of(top), judges
+    for what, after in (("the tool", by_another_tool), ("the toolchain", sums_of(top, "another toolchain"))):
         if set(after.values()) & set(before.values()):
             wrong += 1
             print(f"{what}: not all are void")

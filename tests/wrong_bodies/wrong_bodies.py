@@ -170,8 +170,7 @@ class Libraries:
             copy_crates(crates.top, self.at, below)
             with open(f"{self.at}/crates.txt", "w", encoding="utf-8") as lines:
                 lines.writelines(f"{it}: {' '.join(crates.listed[it][0])}\n" for it in below)
-            how = dict.fromkeys(("stdin", "stdout", "stderr"), subprocess.DEVNULL)
-            subprocess.run(["rt", "ci"], cwd=self.at, **how)
+            subprocess.run(["rt", "ci"], cwd=self.at, stdin=subprocess.DEVNULL, capture_output=True)
 
     def lacking(self, name):
         """A crate below this one whose library isn't there; nothing if all are. A gate that runs says when one is whole."""

@@ -112,6 +112,8 @@ pub(crate) fn feed_until_closed(
 }
 
 /// Takes all of a piece. The window so far stays open for more bytes.
+// Apart, so that a short piece of a file takes no longer for it.
+#[inline(never)]
 pub(crate) fn feed_all(plan: &Plan, count: u64, opened: &mut [u8], window: &mut [u8], piece: &[u8])
     requires step { CanStep plan.now (level_count_of plan.now) count 0 opened.old window.old }
     requires most { count + length piece.now ≤ plan.now.wanted }
