@@ -1,6 +1,6 @@
 //! Data that grows while it is read, and data that is long.
 use crate::program_runs::{disk_of, run, run_with_last};
-use fixtures::{Image, image_17};
+use fixtures::{Image, image_17, same};
 use memory_runtime::Disk;
 use std::alloc::Global;
 use std::io;
@@ -21,29 +21,32 @@ const WORDS: [&str; 2] = [
 ];
 
 /// The length at first, the status and the message.
-const LENGTHS: [(usize, u8, &str); 3] = [
+type Row = (usize, u8, &'static str);
+
+const LENGTHS: [Row; 3] = [
     (8704, 0, ""),
     (8192, 4, "Data ends before the end of block 16.\n"),
     (8191, 4, "Data ends before the end of block 15.\n"),
 ];
 
+/// Verifies an image whose data grows.
+fn check_grown(alloc: Global, image: &Image, words: &str, row: Row) -> Result<(), Fail> {
+    let (length, status, message) = row;
+    let root = hex::encode(alloc, image.root.as_slice())?;
+    let disk = growing_disk(alloc, image, length)?;
+    let output = run_with_last(alloc, &disk, words, Some(root.as_bytes()));
+    let differs = output.differs(status, b"", message.as_bytes());
+    same(format_args!("{words}, {length} bytes"), differs, None)?;
+    let grown = disk.bytes_of("data")?;
+    same(length, grown.as_slice(), image.data.as_slice())
+}
+
 #[test]
 fn bytes_that_come_later_are_no_data(rt: HostRuntime) -> Result<(), Fail> {
-    let alloc = rt.alloc();
-    let image = image_17(alloc)?;
-    let root = hex::encode(alloc, image.root.as_slice())?;
+    let image = image_17(rt.alloc())?;
     for &words in &WORDS {
-        for &(length, status, message) in &LENGTHS {
-            let disk = growing_disk(alloc, &image, length)?;
-            let output = run_with_last(alloc, &disk, words, Some(root.as_bytes()));
-            let differs = output.differs(status, b"", message.as_bytes());
-            let grown = disk.bytes_of("data")?;
-            let found = (differs, grown.as_slice());
-            assert_eq!(rt;
-                found,
-                (None, image.data.as_slice()),
-                "at {words}, {length} bytes"
-            );
+        for &row in &LENGTHS {
+            check_grown(rt.alloc(), &image, words, row)?;
         }
     }
     Ok(())
@@ -63,18 +66,21 @@ const ENDS: [(u64, &str); 3] = [
     ),
 ];
 
+/// Format has to refuse data that is said to end here, and to make no file.
+fn check_length(alloc: Global, data: &[u8], end: u64, message: &str) -> Result<(), Fail> {
+    let disk = disk_of(alloc, data)?;
+    disk.end_at("data", end)?;
+    let words =
+        "veritysetup format --salt=- --data-block-size 512 --data-blocks 17592186044417 data new";
+    let differs = run(alloc, &disk, words).differs(4, b"", message.as_bytes());
+    same(end, (differs, disk.has("new")?), (None, false))
+}
+
 #[test]
 fn a_length_is_taken_as_it_is_said(rt: HostRuntime) -> Result<(), Fail> {
-    let alloc = rt.alloc();
-    let image = image_17(alloc)?;
+    let image = image_17(rt.alloc())?;
     for &(end, message) in &ENDS {
-        let disk = disk_of(alloc, image.data.as_slice())?;
-        disk.end_at("data", end)?;
-        let words =
-            "veritysetup format --salt=- --data-block-size 512 --data-blocks 17592186044417 data new";
-        let output = run(alloc, &disk, words);
-        let differs = output.differs(4, b"", message.as_bytes());
-        assert_eq!(rt; (differs, disk.has("new")?), (None, false), "at {end}");
+        check_length(rt.alloc(), image.data.as_slice(), end, message)?;
     }
     Ok(())
 }

@@ -1,20 +1,11 @@
 //! Words of more than 1024 bytes, with ample memory: paths, the values of options, and words that are refused.
-use crate::program_runs::{disk_of, run, run_with_last};
-use fixtures::{Image, REPORT_17, Report, image_17};
-use memory_runtime::Disk;
+use crate::program_runs::{check_image, disk_of, run, run_with_last};
+use fixtures::{REPORT_17, Report, image_17, same};
 use std::alloc::{AllocError, Global};
-use std::io;
 use std::test::Fail;
 
 /// How often what is long is repeated.
 const MANY: usize = 1100;
-
-/// A disk with the data of an image under a name.
-fn disk_with(alloc: Global, image: &Image, name: &str) -> io::Result<Disk> {
-    let disk = disk_of(alloc, &[])?;
-    disk.make(name, image.data.to_vec(alloc)?)?;
-    Ok(disk)
-}
 
 /// The options of the image of 17 blocks, each number with many zeros before it. Only the salt and the UUID can't be
 /// longer.
@@ -25,54 +16,33 @@ fn long_options(alloc: Global) -> Result<String, AllocError> {
     )
 }
 
-/// What goes wrong when an image is made, dumped and verified, under long names and with these options.
-fn first_wrong(
-    alloc: Global,
-    image: &Image,
-    options: &str,
-    names: (&str, &str),
-) -> Result<Option<(&'static str, &'static str)>, Fail> {
-    let (data, hash) = names;
-    let disk = disk_with(alloc, image, data)?;
-    let root = hex::encode(alloc, image.root.as_slice())?;
+/// The image of 17 blocks is made, dumped and verified under these names.
+fn check_names(alloc: Global, (data, hash): (&str, &str)) -> Result<(), Fail> {
+    let image = image_17(alloc)?;
+    let disk = disk_of(alloc, &[])?;
+    disk.make(data, image.data.to_vec(alloc)?)?;
+    let options = long_options(alloc)?;
     let report = Report {
         path: hash,
         ..REPORT_17
     };
-    let text = report.with_root(alloc, image.root.as_slice())?;
-    let words = format!(in alloc; "veritysetup format {options} {data} {hash}")?;
-    let output = run(alloc, &disk, words.as_str());
-    if let Some(what) = output.differs(0, text.as_bytes(), b"") {
-        return Ok(Some(("format", what)));
-    }
-    let words = format!(in alloc; "veritysetup dump {hash}")?;
-    let output = run(alloc, &disk, words.as_str());
-    if let Some(what) = output.differs(0, report.text(alloc)?.as_bytes(), b"") {
-        return Ok(Some(("dump", what)));
-    }
-    let words = format!(in alloc; "veritysetup verify {data} {hash} {root}")?;
-    let output = run(alloc, &disk, words.as_str());
-    if let Some(what) = output.differs(0, b"", b"") {
-        return Ok(Some(("verify", what)));
-    }
-    Ok(if disk.bytes_of(hash)? == image.device {
-        None
-    } else {
-        Some(("format", "the hash device"))
-    })
+    let text = report.text(alloc)?;
+    check_image(
+        alloc,
+        &disk,
+        &image,
+        options.as_str(),
+        (data, hash),
+        text.as_str(),
+    )
 }
 
 #[test]
 fn long_names_and_values_are_taken(rt: HostRuntime) -> Result<(), Fail> {
     let alloc = rt.alloc();
-    let image = image_17(alloc)?;
-    let options = long_options(alloc)?;
     let data = "d/ä".repeat(alloc, MANY)?;
     let hash = "h/ü".repeat(alloc, MANY)?;
-    let names = (data.as_str(), hash.as_str());
-    let wrong = first_wrong(alloc, &image, options.as_str(), names)?;
-    assert_eq!(rt; wrong, None);
-    Ok(())
+    check_names(alloc, (data.as_str(), hash.as_str()))
 }
 
 /// Commands that end before the long word and after it, and the message for it.
@@ -120,8 +90,7 @@ fn long_values_are_refused_with_their_messages(rt: HostRuntime) -> Result<(), Fa
     for &(before, after, message) in &REFUSED {
         let words = format!(in alloc; "veritysetup {before}{long}{after}")?;
         let output = run(alloc, &disk, words.as_str());
-        let differs = output.differs(1, b"", message.as_bytes());
-        assert_eq!(rt; differs, None, "at {before}");
+        same(before, output.differs(1, b"", message.as_bytes()), None)?;
     }
     Ok(())
 }
@@ -134,8 +103,11 @@ fn a_long_name_stands_in_the_message(rt: HostRuntime) -> Result<(), Fail> {
     let words = format!(in alloc; "veritysetup format {name} hash")?;
     let message = format!(in alloc; "Cannot open {name}.\n")?;
     let output = run(alloc, &disk, words.as_str());
-    assert_eq!(rt; output.differs(4, b"", message.as_bytes()), None);
-    Ok(())
+    same(
+        "a long name",
+        output.differs(4, b"", message.as_bytes()),
+        None,
+    )
 }
 
 #[test]
@@ -151,6 +123,9 @@ fn a_long_word_that_is_not_utf8_is_refused(rt: HostRuntime) -> Result<(), Fail> 
         "veritysetup format data",
         Some(word.as_slice()),
     );
-    assert_eq!(rt; output.differs(1, b"", message.as_bytes()), None);
-    Ok(())
+    same(
+        "a long word",
+        output.differs(1, b"", message.as_bytes()),
+        None,
+    )
 }

@@ -1,4 +1,5 @@
 //! The settings of format if no option is given: the defaults, and random bytes for the salt and the UUID.
+use fixtures::same;
 use std::test::Fail;
 use verity_hash::Algorithm;
 use verity_plan::HashType;
@@ -33,20 +34,19 @@ const UUID: [u8; 16] = [
 
 /// The settings of a file of 8191 bytes, if no option is given.
 #[test]
-fn random_bytes_stand_for_what_is_missing(rt: HostRuntime) -> Result<(), Fail> {
+fn random_bytes_stand_for_what_is_missing(_rt: HostRuntime) -> Result<(), Fail> {
     let settings = settings_of(&DEFAULTS, 8191, Some(&RANDOM))?;
     let plan = settings.plan();
     let tree = plan.settings();
     let kinds = (settings.hash_type(), tree.algorithm());
-    assert_eq!(rt; kinds, (HashType::Current, Algorithm::Sha256));
+    same("kinds", kinds, (HashType::Current, Algorithm::Sha256))?;
     let numbers = [
         tree.data_block().into(),
         tree.hash_block().into(),
         plan.blocks(),
         plan.base(),
     ];
-    assert_eq!(rt; numbers, [4096_u64, 4096, 1, 1]);
-    let drawn = [tree.salt(), &settings.uuid()];
-    assert_eq!(rt; drawn, [&RANDOM[..32], &UUID]);
-    Ok(())
+    same("numbers", numbers, [4096_u64, 4096, 1, 1])?;
+    same("the salt", tree.salt(), &RANDOM[..32])?;
+    same("the UUID", settings.uuid(), UUID)
 }

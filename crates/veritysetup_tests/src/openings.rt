@@ -1,6 +1,9 @@
 //! The program over files in memory: which files it opens, in which order, what it syncs, and how long it holds each.
-use crate::program_runs::{PLACEHOLDERS, disk_of, run};
+use crate::program_runs::{check_end, check_opened, disk_of, disk_of_two, run};
+use fixtures::same;
 use memory_runtime::{Call, Disk, Kind};
+use std::alloc::Global;
+use std::io;
 use std::test::Fail;
 
 const PLACEHOLDERS_OPENED: &str = "open /\nopen /\nopen /\n";
@@ -185,38 +188,37 @@ const RUNS: [(&str, &str, &str, u8, &str); 24] = [
     ),
 ];
 
+/// A disk with the files and the folder of these runs.
+fn disk_of_runs(alloc: Global) -> io::Result<Disk> {
+    let disk = disk_of(alloc, &[5; 8192])?;
+    disk.make_kind("images", Kind::Folder, Vec::new(alloc))?;
+    disk.make("hash.img", [0; 8192].to_vec(alloc)?)?;
+    Ok(disk)
+}
+
+/// What is opened, synced and closed while the placeholders are open has to be this.
+fn check_held(disk: &Disk, words: &str, held: &str) -> Result<(), Fail> {
+    let all = disk.held()?;
+    let found = all
+        .as_str()
+        .strip_prefix(PLACEHOLDERS_OPENED)
+        .unwrap_or("")
+        .strip_suffix(PLACEHOLDERS_CLOSED);
+    same(words, found, Some(held))
+}
+
 /// Only a run that goes through prints a report.
 #[test]
 fn files_are_opened_and_held_in_order(rt: HostRuntime) -> Result<(), Fail> {
-    let alloc = rt.alloc();
     for &(words, opened, held, status, message) in &RUNS {
-        let disk = disk_of(alloc, &[5; 8192])?;
-        disk.make_kind("images", Kind::Folder, Vec::new(alloc))?;
-        disk.make("hash.img", [0; 8192].to_vec(alloc)?)?;
-        let output = run(alloc, &disk, words);
-        let all_opened = disk.opened()?;
-        let all_held = disk.held()?;
-        let found = (
-            all_opened.as_str().strip_prefix(PLACEHOLDERS),
-            all_held
-                .as_str()
-                .strip_prefix(PLACEHOLDERS_OPENED)
-                .unwrap_or("")
-                .strip_suffix(PLACEHOLDERS_CLOSED),
-            output.status,
-            output.msgs.as_slice(),
-            output.out.is_empty(),
-            message == NOT_OPENED && disk.calls(Call::Read)? == 0,
-        );
-        let expected = (
-            Some(opened),
-            Some(held),
-            status,
-            message.as_bytes(),
-            status != 0,
-            message == NOT_OPENED,
-        );
-        assert_eq!(rt; found, expected, "at {words}");
+        let disk = disk_of_runs(rt.alloc())?;
+        let prints = check_end(rt.alloc(), &disk, words, (status, message))?;
+        same(words, prints, status == 0)?;
+        check_opened(&disk, words, opened)?;
+        check_held(&disk, words, held)?;
+        if message == NOT_OPENED {
+            same(words, disk.calls(Call::Read)?, 0)?;
+        }
     }
     Ok(())
 }
@@ -245,15 +247,12 @@ const UNANSWERED: [(&str, u64, &str); 5] = [
 /// It may be a folder.
 #[test]
 fn an_opened_file_of_which_the_system_says_nothing_is_refused(rt: HostRuntime) -> Result<(), Fail> {
-    let alloc = rt.alloc();
     for &(words, number, message) in &UNANSWERED {
-        let disk = disk_of(alloc, &[5; 8192])?;
-        disk.make("hash.img", [0; 8192].to_vec(alloc)?)?;
+        let disk = disk_of_two(rt.alloc())?;
         disk.fail(Call::Metadata, number)?;
-        let output = run(alloc, &disk, words);
-        let differs = output.differs(4, b"", message.as_bytes());
-        let found = (differs, disk.calls(Call::Read)?, disk.has("hash")?);
-        assert_eq!(rt; found, (None, 0, false), "at {words}");
+        let prints = check_end(rt.alloc(), &disk, words, (4, message))?;
+        let found = (prints, disk.calls(Call::Read)?, disk.has("hash")?);
+        same(words, found, (false, 0, false))?;
     }
     Ok(())
 }
@@ -265,7 +264,5 @@ fn the_null_device_stands_for_the_root_folder(rt: HostRuntime) -> Result<(), Fai
     disk.make("data", [5; 8192].to_vec(alloc)?)?;
     disk.make_kind("/dev/null", Kind::Character, Vec::new(alloc))?;
     let status = run(alloc, &disk, "veritysetup format data hash").status;
-    let found = (status, disk.has("hash")?);
-    assert_eq!(rt; found, (0, true));
-    Ok(())
+    same("format", (status, disk.has("hash")?), (0, true))
 }

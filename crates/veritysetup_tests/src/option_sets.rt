@@ -1,5 +1,5 @@
 //! Command lines with every set of a command's options: each is read, and the line holds the values that are given.
-use fixtures::{OptionWords, is_in};
+use fixtures::{OptionWords, is_in, same};
 use std::alloc::{AllocError, Global};
 use std::test::Fail;
 use veritysetup::{CommandName, Line, read_words};
@@ -61,6 +61,26 @@ fn push_option(
     Ok(())
 }
 
+/// Adds the words of a set of options.
+fn push_options(
+    words: &mut Vec<&'static str>,
+    set: u32,
+    is_reversed: bool,
+    is_one_word: bool,
+) -> Result<(), AllocError> {
+    for place in 0..=NO_SUPERBLOCK {
+        let number = if is_reversed {
+            NO_SUPERBLOCK.saturating_sub(place)
+        } else {
+            place
+        };
+        if is_in(set, number) {
+            push_option(words, number, is_one_word)?;
+        }
+    }
+    Ok(())
+}
+
 /// The words of a command line with a set of options.
 fn words_of(
     alloc: Global,
@@ -69,22 +89,9 @@ fn words_of(
     (is_reversed, is_one_word, before): Layout,
 ) -> Result<Vec<&'static str>, AllocError> {
     let mut words = vec![in alloc; "veritysetup", name]?;
-    for &file in files.iter().take(before) {
-        words.push(file)?;
-    }
-    for place in 0..=NO_SUPERBLOCK {
-        let number = if is_reversed {
-            NO_SUPERBLOCK.saturating_sub(place)
-        } else {
-            place
-        };
-        if is_in(set, number) {
-            push_option(&mut words, number, is_one_word)?;
-        }
-    }
-    for &file in files.iter().skip(before) {
-        words.push(file)?;
-    }
+    words.extend_from_slice(files.get(..before).unwrap_or(files))?;
+    push_options(&mut words, set, is_reversed, is_one_word)?;
+    words.extend_from_slice(files.get(before..).unwrap_or(&[]))?;
     Ok(words)
 }
 
@@ -193,7 +200,7 @@ fn every_set_of_options_is_read(rt: HostRuntime) -> Result<(), Fail> {
         for places in 0..1_u32.wrapping_shl((command.3.len() % 32) as u32) {
             let set = set_of(command, places);
             let wrong = wrong_layout(rt.alloc(), command, set)?;
-            assert_eq!(rt; wrong, None, "at {}, {set:b}", command.1);
+            same(format_args!("{}, {set:b}", command.1), wrong, None)?;
         }
     }
     Ok(())

@@ -1,8 +1,10 @@
 //! The program over files in memory.
-use fixtures::RunOutput;
+use fixtures::{Image, RunOutput, same};
 use memory_runtime::{Disk, Kind, MemoryRuntime};
 use std::alloc::Global;
+use std::fmt::Display;
 use std::io;
+use std::test::Fail;
 use veritysetup::{ShownProgress, run_program};
 
 /// What is opened first.
@@ -15,6 +17,13 @@ pub fn disk_of(alloc: Global, data: &[u8]) -> io::Result<Disk> {
     disk.make_kind("/dev/null", Kind::Character, Vec::new(alloc))?;
     disk.make_kind(".", Kind::Folder, Vec::new(alloc))?;
     disk.make("data", data.to_vec(alloc)?)?;
+    Ok(disk)
+}
+
+/// The same with 8192 bytes in `data` and in `hash.img`.
+pub fn disk_of_two(alloc: Global) -> io::Result<Disk> {
+    let disk = disk_of(alloc, &[5; 8192])?;
+    disk.make("hash.img", [0; 8192].to_vec(alloc)?)?;
     Ok(disk)
 }
 
@@ -42,4 +51,73 @@ pub fn run_with_last<'a>(
     let mut runtime = MemoryRuntime::new(alloc, disk, words);
     runtime.last_word = last_word;
     output_of(alloc, &runtime)
+}
+
+/// Runs the program with these words, which has to end with this status and these messages. The result is whether it
+/// prints anything else.
+pub fn check_end(alloc: Global, disk: &Disk, words: &str, end: (u8, &str)) -> Result<bool, Fail> {
+    let output = run(alloc, disk, words);
+    let found = (output.status, output.msgs.as_slice());
+    same(words, found, (end.0, end.1.as_bytes()))?;
+    Ok(!output.out.is_empty())
+}
+
+/// What is opened after the placeholders has to be this.
+pub fn check_opened(disk: &Disk, at: &str, opened: &str) -> Result<(), Fail> {
+    let all = disk.opened()?;
+    same(at, all.as_str().strip_prefix(PLACEHOLDERS), Some(opened))
+}
+
+/// Runs a command with these words, which has to print this text.
+pub fn check_printed<W: Display + Drop>(
+    alloc: Global,
+    disk: &Disk,
+    command: &str,
+    words: W,
+    text: &str,
+) -> Result<(), Fail> {
+    let words = format!(in alloc; "veritysetup {command} {words}")?;
+    let differs = run(alloc, disk, words.as_str()).differs(0, text.as_bytes(), b"");
+    same(command, differs, None)
+}
+
+/// Runs format with these options and names, which has to print this text and the root hash after it.
+pub fn check_format(
+    alloc: Global,
+    disk: &Disk,
+    options: &str,
+    (data, hash): (&str, &str),
+    (text, root): (&str, &str),
+) -> Result<(), Fail> {
+    let text = format!(in alloc; "{text}Root hash:       \t{root}\n")?;
+    let words = format_args!("{options} {data} {hash}");
+    check_printed(alloc, disk, "format", words, text.as_str())
+}
+
+/// The image of a file is made, dumped and verified, with these options and under these names. Dump has to print this
+/// text, and format the root hash after it.
+pub fn check_image(
+    alloc: Global,
+    disk: &Disk,
+    image: &Image,
+    options: &str,
+    (data, hash): (&str, &str),
+    text: &str,
+) -> Result<(), Fail> {
+    let root = hex::encode(alloc, image.root.as_slice())?;
+    check_format(alloc, disk, options, (data, hash), (text, root.as_str()))?;
+    check_printed(alloc, disk, "dump", hash, text)?;
+    check_printed(
+        alloc,
+        disk,
+        "verify",
+        format_args!("{data} {hash} {root}"),
+        "",
+    )?;
+    let device = disk.bytes_of(hash)?;
+    same(
+        "the hash device",
+        device.as_slice(),
+        image.device.as_slice(),
+    )
 }

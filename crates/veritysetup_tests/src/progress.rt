@@ -1,6 +1,6 @@
 //! The progress line of long work: it is shown only on a terminal, and erased before anything else is written there.
 use crate::program_runs::disk_of;
-use fixtures::{is_plain, shown_before};
+use fixtures::{is_plain, same, shown_before};
 use memory_runtime::{Disk, MemoryRuntime, StandardError};
 use std::alloc::Global;
 use std::io;
@@ -47,11 +47,13 @@ const OF_BLOCKS: [u64; 16] = [
 /// The same, up to there, of the second file.
 const OF_LONG: [u64; 16] = [3, 6, 9, 12, 15, 18, 21, 24, 28, 31, 34, 37, 40, 43, 46, 49];
 
-/// Words of runs one after another, their status, the hundredths in their lines and of how many MiB, and how their
-/// other output begins. The files are those of `disk_of_files`, and those that earlier runs have made. The root hashes
+/// Words, the status of their run, the hundredths in its lines and of how many MiB, and how its other output begins.
+type Row = (&'static str, u8, (&'static [u64], u64), &'static str);
+
+/// Runs one after another. The files are those of `disk_of_files`, and those that earlier runs have made. The root hashes
 /// are those of 65 and of 256 blocks of 4096 bytes that are all 5, as sha256sum gives them. The number of MiB is that
 /// of the covered data, or, if a superblock says how much is covered, the length of DATA.
-const RUNS: [(&str, u8, (&[u64], u64), &str); 9] = [
+const RUNS: [Row; 9] = [
     (
         "veritysetup format --salt=- data hash",
         0,
@@ -116,24 +118,23 @@ fn disk_of_files(alloc: Global) -> io::Result<Disk> {
     Ok(disk)
 }
 
-/// Each run writes the same to a terminal as to a pipe, after the progress lines.
+/// A run to a terminal has to write the same as one to a pipe, after the progress lines.
+fn check_shown(alloc: Global, disk: &Disk, row: Row) -> Result<(), Fail> {
+    let (words, status, (hundredths, total), start) = row;
+    let (piped, plain) = written(alloc, disk, words, None)?;
+    let (ended, shown) = written(alloc, disk, words, Some(STEP))?;
+    let is_plain = is_plain(plain.as_slice(), start);
+    same(words, (piped, ended, is_plain), (status, status, true))?;
+    let expected = shown_before(alloc, hundredths, total, plain.as_slice())?;
+    same(words, shown, expected)
+}
+
 #[test]
 fn a_terminal_is_told_how_far_it_is(rt: HostRuntime) -> Result<(), Fail> {
-    let alloc = rt.alloc();
-    let disk = disk_of_files(alloc)?;
-    for &(words, status, (hundredths, total), start) in &RUNS {
-        let (piped, plain) = written(alloc, &disk, words, None)?;
-        let (ended, shown) = written(alloc, &disk, words, Some(STEP))?;
-        let expected = shown_before(alloc, hundredths, total, plain.as_slice())?;
-        let plain = is_plain(plain.as_slice(), start);
-        let found = (piped, ended, plain, shown.as_slice());
-        assert_eq!(rt;
-            found,
-            (status, status, true, expected.as_slice()),
-            "at {words}"
-        );
+    let disk = disk_of_files(rt.alloc())?;
+    for &row in &RUNS {
+        check_shown(rt.alloc(), &disk, row)?;
     }
     // Each of the runs asks once whether standard error is a terminal.
-    assert_eq!(rt; disk.looks()?, 18);
-    Ok(())
+    same("looks at standard error", disk.looks()?, 18)
 }

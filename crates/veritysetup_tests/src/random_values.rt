@@ -1,7 +1,7 @@
 //! The salt and the UUID that format draws if they aren't given: both come from a generator of the crate `rand` that is
 //! seeded with 32 bytes of the system. Without these there is no hash device.
 use crate::program_runs::{disk_of, output_of};
-use fixtures::{Image, REPORT_17, Report, RunOutput, UUID, UUID_AT, data, image_of, lay};
+use fixtures::{REPORT_17, Report, RunOutput, UUID, UUID_AT, data, image_of, lay, same};
 use memory_runtime::{Disk, MemoryRuntime};
 use rand::rngs::StdRng;
 use rand::{Rng, SeedableRng};
@@ -28,7 +28,9 @@ const SEEDS: [[u8; 32]; 5] = [
 ];
 
 /// Options beside the block sizes, and whether a salt and a UUID are drawn for them.
-const OPTIONS: [(&str, bool, bool); 4] = [
+type Options = (&'static str, bool, bool);
+
+const OPTIONS: [Options; 4] = [
     ("", true, true),
     ("--salt abcdef ", false, true),
     ("--uuid 00112233-4455-4677-8899-aabbccddeeff ", true, false),
@@ -80,8 +82,7 @@ fn uuid_text(alloc: Global, uuid: &[u8; 16]) -> Result<String, AllocError> {
 fn values(
     alloc: Global,
     seed: [u8; 32],
-    draws_salt: bool,
-    draws_uuid: bool,
+    (_, draws_salt, draws_uuid): Options,
 ) -> Result<(Vec<u8>, [u8; 16]), AllocError> {
     let (drawn_salt, drawn_uuid) = drawn(seed);
     let salt = if draws_salt {
@@ -97,17 +98,7 @@ fn values(
     Ok((salt, uuid))
 }
 
-/// The image of 17 blocks with this salt and UUID, and its report.
-fn expected(alloc: Global, salt: &[u8], uuid: &[u8; 16]) -> Result<(Image, String), AllocError> {
-    let mut image = image_of(alloc, 512, salt, 17, 2)?;
-    lay(&mut image.device, &[(UUID_AT, uuid)]);
-    let salt = hex::encode(alloc, salt)?;
-    let uuid = uuid_text(alloc, uuid)?;
-    let report = report(alloc, uuid.as_str(), salt.as_str(), image.root.as_slice())?;
-    Ok((image, report))
-}
-
-/// The report of an image of 17 blocks with these values.
+/// The report of an image of 17 blocks with this text of its UUID and its salt.
 fn report<'a>(
     alloc: Global,
     uuid: &'a str,
@@ -121,6 +112,13 @@ fn report<'a>(
         ..REPORT_17
     };
     report.with_root(alloc, root)
+}
+
+/// What format has to print of the image with this salt, UUID and root hash.
+fn printed(alloc: Global, salt: &[u8], uuid: &[u8; 16], root: &[u8]) -> Result<String, AllocError> {
+    let salt = hex::encode(alloc, salt)?;
+    let uuid = uuid_text(alloc, uuid)?;
+    report(alloc, uuid.as_str(), salt.as_str(), root)
 }
 
 /// What format of 17 blocks says, with a seed and with options.
@@ -148,27 +146,40 @@ fn run_with_random<'a>(
     output_of(alloc, &runtime)
 }
 
+/// What goes wrong in the run or on the hash device with a seed and options.
+fn wrong_format(
+    alloc: Global,
+    disk: &Disk,
+    seed: [u8; 32],
+    options: Options,
+) -> Result<Option<&'static str>, Fail> {
+    let (salt, uuid) = values(alloc, seed, options)?;
+    let mut image = image_of(alloc, 512, salt.as_slice(), 17, 2)?;
+    lay(&mut image.device, &[(UUID_AT, &uuid)]);
+    let text = printed(alloc, salt.as_slice(), &uuid, image.root.as_slice())?;
+    let differs = formatted(alloc, disk, &seed, options.0)?.differs(0, text.as_bytes(), b"");
+    Ok(match differs {
+        None if disk.bytes_of("hash")? != image.device => Some("the hash device"),
+        differs => differs,
+    })
+}
+
 /// What goes wrong with a seed and options: the run, the hash device, or the number of random bytes that are asked for.
 fn first_wrong(
     alloc: Global,
     seed: [u8; 32],
-    (options, draws_salt, draws_uuid): (&str, bool, bool),
+    options: Options,
 ) -> Result<Option<&'static str>, Fail> {
-    let (salt, uuid) = values(alloc, seed, draws_salt, draws_uuid)?;
-    let (image, report) = expected(alloc, salt.as_slice(), &uuid)?;
     let disk = disk_of(alloc, data(alloc, 8704)?.as_slice())?;
-    let output = formatted(alloc, &disk, &seed, options)?;
-    if let Some(what) = output.differs(0, report.as_bytes(), b"") {
+    if let Some(what) = wrong_format(alloc, &disk, seed, options)? {
         return Ok(Some(what));
     }
-    if disk.bytes_of("hash")? != image.device {
-        return Ok(Some("the hash device"));
-    }
-    let asked = if draws_salt || draws_uuid { 32 } else { 0 };
-    if disk.random_bytes()? != asked {
-        return Ok(Some("the number of random bytes"));
-    }
-    Ok(None)
+    let asked = if options.1 || options.2 { 32 } else { 0 };
+    Ok(if disk.random_bytes()? == asked {
+        None
+    } else {
+        Some("the number of random bytes")
+    })
 }
 
 #[test]
@@ -176,7 +187,7 @@ fn salt_and_uuid_are_drawn_by_a_seed_of_32_bytes(rt: HostRuntime) -> Result<(), 
     for &seed in &SEEDS {
         for &options in &OPTIONS {
             let wrong = first_wrong(rt.alloc(), seed, options)?;
-            assert_eq!(rt; wrong, None, "at {seed:?}, {options:?}");
+            same(format_args!("{seed:?}, {options:?}"), wrong, None)?;
         }
     }
     Ok(())
@@ -193,8 +204,7 @@ fn no_random_bytes_make_no_file(rt: HostRuntime) -> Result<(), Fail> {
     ] {
         let output = run_with_random(alloc, &disk, words, &[]);
         let differs = output.differs(4, b"", b"Cannot get random bytes.\n");
-        let found = (differs, disk.has("hash")?);
-        assert_eq!(rt; found, (None, false), "at {words}");
+        same(words, (differs, disk.has("hash")?), (None, false))?;
     }
     Ok(())
 }

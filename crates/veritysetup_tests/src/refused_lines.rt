@@ -1,5 +1,6 @@
 //! Command lines that are refused, with which text.
 use crate::program_runs::{disk_of, run_with_last};
+use fixtures::same;
 use std::alloc::Global;
 use std::test::Fail;
 use veritysetup::{LineFault, read_words};
@@ -88,14 +89,13 @@ fn is_refused_without_words(alloc: Global) -> bool {
 #[test]
 fn refused_words_open_no_file(rt: HostRuntime) -> Result<(), Fail> {
     let alloc = rt.alloc();
-    assert!(rt; is_refused_without_words(alloc));
+    same("no words", is_refused_without_words(alloc), true)?;
     let disk = disk_of(alloc, &[5; 8192])?;
     for &(words, last_word, message) in &REFUSED {
         let output = run_with_last(alloc, &disk, words, last_word);
         let differs = output.differs(1, b"", message.as_bytes());
-        assert_eq!(rt; differs, None, "at {words}");
+        same(words, differs, None)?;
     }
     let opened = disk.opened()?;
-    assert_eq!(rt; opened.as_str(), "");
-    Ok(())
+    same("what is opened", opened.as_str(), "")
 }

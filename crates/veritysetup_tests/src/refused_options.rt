@@ -1,5 +1,6 @@
 //! The message of each option that is refused, whole, from a run of the program.
 use crate::program_runs::{disk_of, run};
+use fixtures::same;
 use std::test::Fail;
 
 const BAD_UUID: &str = "UUID is not valid.\n";
@@ -96,12 +97,8 @@ fn each_refused_option_has_its_message(rt: HostRuntime) -> Result<(), Fail> {
     let disk = disk_of(alloc, &[5; 8192])?;
     for &(words, message) in &REFUSED {
         let line = format!(in alloc; "veritysetup {words}")?;
-        let output = run(alloc, &disk, line.as_str());
-        let found = (
-            output.differs(1, b"", message.as_bytes()),
-            disk.has("hash")?,
-        );
-        assert_eq!(rt; found, (None, false), "at {words}");
+        let differs = run(alloc, &disk, line.as_str()).differs(1, b"", message.as_bytes());
+        same(words, (differs, disk.has("hash")?), (None, false))?;
     }
     Ok(())
 }

@@ -1,6 +1,6 @@
 //! The reports of format and dump by each hash function and hash type, with a superblock and without.
 use crate::program_runs::{disk_of, run};
-use fixtures::{REPORT_17, Report, Shape, Tree, data, superblock, with_zeros};
+use fixtures::{REPORT_17, Report, Shape, Tree, data, same, superblock, with_zeros};
 use memory_runtime::Disk;
 use std::alloc::{AllocError, Global};
 use std::test::Fail;
@@ -97,20 +97,38 @@ fn wrong_format(
     })
 }
 
-/// The words of verify. Without a superblock they have the options of format.
-fn words_of_verify(
+/// What verify prints that isn't as it should be. Without a superblock its words have the options of format.
+fn wrong_verify(
     alloc: Global,
+    disk: &Disk,
     (_, name, hash_type, _): Row,
     root: &[u8],
     has_superblock: bool,
-) -> Result<String, AllocError> {
+) -> Result<Option<&'static str>, Fail> {
     let root = hex::encode(alloc, root)?;
-    if has_superblock {
-        return format!(in alloc; "veritysetup verify data hash {root}");
+    let words = if has_superblock {
+        format!(in alloc; "veritysetup verify data hash {root}")?
+    } else {
+        format!(in alloc;
+            "veritysetup verify --no-superblock --hash {name} --format {hash_type} --data-block-size 512 --hash-block-size 512 --salt abcd data hash {root}"
+        )?
+    };
+    Ok(run(alloc, disk, words.as_str()).differs(0, b"", b""))
+}
+
+/// What dump prints that isn't as it should be.
+fn wrong_dump(
+    alloc: Global,
+    disk: &Disk,
+    row: Row,
+    has_superblock: bool,
+) -> Result<Option<&'static str>, Fail> {
+    let dump = run(alloc, disk, "veritysetup dump hash");
+    if !has_superblock {
+        return Ok(dump.differs(1, b"", b"No verity superblock.\n"));
     }
-    format!(in alloc;
-        "veritysetup verify --no-superblock --hash {name} --format {hash_type} --data-block-size 512 --hash-block-size 512 --salt abcd data hash {root}"
-    )
+    let text = report_of(row, true).text(alloc)?;
+    Ok(dump.differs(0, text.as_bytes(), b""))
 }
 
 /// What goes wrong in format, with a superblock or without, or then in verify or dump.
@@ -124,19 +142,11 @@ fn first_wrong(
     if let Some(what) = wrong_format(alloc, &disk, row, &tree, has_superblock)? {
         return Ok(Some(("format", what)));
     }
-    let words = words_of_verify(alloc, row, tree.root.as_slice(), has_superblock)?;
-    let verify = run(alloc, &disk, words.as_str());
-    if let Some(what) = verify.differs(0, b"", b"") {
+    let root = tree.root.as_slice();
+    if let Some(what) = wrong_verify(alloc, &disk, row, root, has_superblock)? {
         return Ok(Some(("verify", what)));
     }
-    let dump = run(alloc, &disk, "veritysetup dump hash");
-    let differs = if has_superblock {
-        let text = report_of(row, true).text(alloc)?;
-        dump.differs(0, text.as_bytes(), b"")
-    } else {
-        dump.differs(1, b"", b"No verity superblock.\n")
-    };
-    Ok(match differs {
+    Ok(match wrong_dump(alloc, &disk, row, has_superblock)? {
         Some(what) => Some(("dump", what)),
         None => None,
     })
@@ -147,7 +157,7 @@ fn each_hash_function_and_type_is_reported_and_verified(rt: HostRuntime) -> Resu
     for &row in &ROWS {
         for &has_superblock in &[true, false] {
             let wrong = first_wrong(rt.alloc(), row, has_superblock)?;
-            assert_eq!(rt; wrong, None, "at {row:?}, {has_superblock}");
+            same(format_args!("{row:?}, {has_superblock}"), wrong, None)?;
         }
     }
     Ok(())

@@ -1,6 +1,9 @@
 //! Two names of one file, as DATA and as HASH: data is never overwritten.
-use crate::program_runs::{PLACEHOLDERS, disk_of, run};
+use crate::program_runs::{check_end, check_opened, disk_of};
+use fixtures::same;
 use memory_runtime::{Disk, Kind};
+use std::alloc::Global;
+use std::io;
 use std::test::Fail;
 
 /// The kind of a file with the names `data` and `other`, and words.
@@ -23,52 +26,60 @@ const OVERLAPS: [(Kind, &str); 7] = [
     ),
 ];
 
+/// A disk with a file of a kind under the two names.
+fn disk_of_overlaps(alloc: Global, kind: Kind) -> io::Result<Disk> {
+    let disk = Disk::new(alloc);
+    disk.make_kind("/", Kind::Folder, Vec::new(alloc))?;
+    disk.make_kind("data", kind, [5; 8192].to_vec(alloc)?)?;
+    disk.link("data", "other")?;
+    Ok(disk)
+}
+
 #[test]
 fn data_is_never_overwritten(rt: HostRuntime) -> Result<(), Fail> {
-    let alloc = rt.alloc();
     for &(kind, words) in &OVERLAPS {
-        let disk = Disk::new(alloc);
-        disk.make_kind("/", Kind::Folder, Vec::new(alloc))?;
-        disk.make_kind("data", kind, [5; 8192].to_vec(alloc)?)?;
-        disk.link("data", "other")?;
-        let message = b"Data area and hash area overlap.\n";
-        let differs = run(alloc, &disk, words).differs(1, b"", message);
-        let opened = disk.opened()?;
-        let found = (differs, opened.as_str().strip_prefix(PLACEHOLDERS));
-        assert_eq!(rt; found, (None, Some("data: read\n")), "at {words}");
+        let disk = disk_of_overlaps(rt.alloc(), kind)?;
+        let end = (1, "Data area and hash area overlap.\n");
+        same(words, check_end(rt.alloc(), &disk, words, end)?, false)?;
+        check_opened(&disk, words, "data: read\n")?;
     }
     Ok(())
 }
 
-/// HASH; the status and the message; and what is opened after DATA. Once DATA is opened, its name leads to the file
-/// else, and the opened file has the name other alone.
+/// Words, the status and the message, and what is opened. Once DATA is opened, its name leads to the file else, and the
+/// opened file has the name other alone.
 const LED: [(&str, u8, &str, &str); 2] = [
-    ("other", 1, "Data area and hash area overlap.\n", ""),
-    ("else", 0, "", "else: read write\n"),
+    (
+        "veritysetup format data other",
+        1,
+        "Data area and hash area overlap.\n",
+        "data: read\n",
+    ),
+    (
+        "veritysetup format data else",
+        0,
+        "",
+        "data: read\nelse: read write\n",
+    ),
 ];
+
+/// A disk on which the name of DATA leads elsewhere once it is opened.
+fn disk_of_led(alloc: Global) -> io::Result<Disk> {
+    let disk = disk_of(alloc, &[5; 8192])?;
+    disk.link("data", "other")?;
+    disk.make("else", [6; 100].to_vec(alloc)?)?;
+    disk.lead("data", "data", "else")?;
+    Ok(disk)
+}
 
 #[test]
 fn opened_data_is_known_whatever_its_name_leads_to(rt: HostRuntime) -> Result<(), Fail> {
-    let alloc = rt.alloc();
-    for &(hash, status, message, opened) in &LED {
-        let disk = disk_of(alloc, &[5; 8192])?;
-        disk.link("data", "other")?;
-        disk.make("else", [6; 100].to_vec(alloc)?)?;
-        disk.lead("data", "data", "else")?;
-        let words = format!(in alloc; "veritysetup format data {hash}")?;
-        let output = run(alloc, &disk, words.as_str());
-        let all = disk.opened()?;
-        let found = (
-            output.status,
-            output.msgs.as_slice(),
-            all.as_str()
-                .strip_prefix(PLACEHOLDERS)
-                .unwrap_or("")
-                .strip_prefix("data: read\n"),
-            disk.bytes_of("other")? == [5; 8192].to_vec(alloc)?,
-        );
-        let expected = (status, message.as_bytes(), Some(opened), true);
-        assert_eq!(rt; found, expected, "at {hash}");
+    for &(words, status, message, opened) in &LED {
+        let disk = disk_of_led(rt.alloc())?;
+        check_end(rt.alloc(), &disk, words, (status, message))?;
+        check_opened(&disk, words, opened)?;
+        let other = disk.bytes_of("other")?;
+        same(words, other.as_slice() == [5; 8192].as_slice(), true)?;
     }
     Ok(())
 }
