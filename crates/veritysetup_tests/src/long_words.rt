@@ -17,7 +17,7 @@ fn long_options(alloc: Global) -> Result<String, AllocError> {
 }
 
 /// The image of 17 blocks is made, dumped and verified under these names.
-fn check_names(alloc: Global, (data, hash): (&str, &str)) -> Result<(), Fail> {
+fn check_names(alloc: Global, data: &str, hash: &str) -> Result<(), Fail> {
     let image = image_17(alloc)?;
     let disk = disk_of(alloc, &[])?;
     disk.make(data, image.data.to_vec(alloc)?)?;
@@ -26,15 +26,7 @@ fn check_names(alloc: Global, (data, hash): (&str, &str)) -> Result<(), Fail> {
         path: hash,
         ..REPORT_17
     };
-    let text = report.text(alloc)?;
-    check_image(
-        alloc,
-        &disk,
-        &image,
-        options.as_str(),
-        (data, hash),
-        text.as_str(),
-    )
+    check_image(alloc, &disk, &image, options.as_str(), data, &report)
 }
 
 #[test]
@@ -42,7 +34,7 @@ fn long_names_and_values_are_taken(rt: HostRuntime) -> Result<(), Fail> {
     let alloc = rt.alloc();
     let data = "d/ä".repeat(alloc, MANY)?;
     let hash = "h/ü".repeat(alloc, MANY)?;
-    check_names(alloc, (data.as_str(), hash.as_str()))
+    check_names(alloc, data.as_str(), hash.as_str())
 }
 
 /// Commands that end before the long word and after it, and the message for it.
@@ -89,8 +81,8 @@ fn long_values_are_refused_with_their_messages(rt: HostRuntime) -> Result<(), Fa
     let long = "ab".repeat(alloc, MANY)?;
     for &(before, after, message) in &REFUSED {
         let words = format!(in alloc; "veritysetup {before}{long}{after}")?;
-        let output = run(alloc, &disk, words.as_str());
-        same(before, output.differs(1, b"", message.as_bytes()), None)?;
+        let differs = run(alloc, &disk, words.as_str()).differs(1, b"", message.as_bytes());
+        same(before, differs, None)?;
     }
     Ok(())
 }
@@ -102,12 +94,8 @@ fn a_long_name_stands_in_the_message(rt: HostRuntime) -> Result<(), Fail> {
     let name = "long/".repeat(alloc, MANY)?;
     let words = format!(in alloc; "veritysetup format {name} hash")?;
     let message = format!(in alloc; "Cannot open {name}.\n")?;
-    let output = run(alloc, &disk, words.as_str());
-    same(
-        "a long name",
-        output.differs(4, b"", message.as_bytes()),
-        None,
-    )
+    let differs = run(alloc, &disk, words.as_str()).differs(4, b"", message.as_bytes());
+    same("a long name", differs, None)
 }
 
 #[test]
@@ -117,15 +105,8 @@ fn a_long_word_that_is_not_utf8_is_refused(rt: HostRuntime) -> Result<(), Fail> 
     let word = vec![in alloc; 0xff_u8; MANY]?;
     let escaped = "\\xff".repeat(alloc, MANY)?;
     let message = format!(in alloc; "error: argument 3 is not UTF-8: {escaped}\n")?;
-    let output = run_with_last(
-        alloc,
-        &disk,
-        "veritysetup format data",
-        Some(word.as_slice()),
-    );
-    same(
-        "a long word",
-        output.differs(1, b"", message.as_bytes()),
-        None,
-    )
+    let (words, last_word) = ("veritysetup format data", Some(word.as_slice()));
+    let output = run_with_last(alloc, &disk, words, last_word);
+    let differs = output.differs(1, b"", message.as_bytes());
+    same("a long word", differs, None)
 }

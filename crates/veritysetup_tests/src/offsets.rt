@@ -55,10 +55,8 @@ const OFFSETS: [Row; 2] = [
 fn check_offset(alloc: Global, image: &Image, row: Row) -> Result<(), Fail> {
     let (offset, status, message) = row;
     let root = hex::encode(alloc, image.root.as_slice())?;
-    let input = VerifyInput::Stored {
-        offset,
-        root: root.as_str(),
-    };
+    let root = root.as_str();
+    let input = VerifyInput::Stored { offset, root };
     let bytes = image.device.get(..SUPERBLOCK_SIZE).unwrap_or(&[]);
     let mut device = Far { offset, bytes };
     let mut source = MemorySource::new(image.data.as_slice());

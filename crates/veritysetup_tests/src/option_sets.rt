@@ -65,8 +65,7 @@ fn push_option(
 fn push_options(
     words: &mut Vec<&'static str>,
     set: u32,
-    is_reversed: bool,
-    is_one_word: bool,
+    (is_reversed, is_one_word, _): Layout,
 ) -> Result<(), AllocError> {
     for place in 0..=NO_SUPERBLOCK {
         let number = if is_reversed {
@@ -86,12 +85,12 @@ fn words_of(
     alloc: Global,
     (_, name, files, _): Command,
     set: u32,
-    (is_reversed, is_one_word, before): Layout,
+    layout: Layout,
 ) -> Result<Vec<&'static str>, AllocError> {
     let mut words = vec![in alloc; "veritysetup", name]?;
-    words.extend_from_slice(files.get(..before).unwrap_or(files))?;
-    push_options(&mut words, set, is_reversed, is_one_word)?;
-    words.extend_from_slice(files.get(before..).unwrap_or(&[]))?;
+    words.extend_from_slice(files.get(..layout.2).unwrap_or(files))?;
+    push_options(&mut words, set, layout)?;
+    words.extend_from_slice(files.get(layout.2..).unwrap_or(&[]))?;
     Ok(words)
 }
 

@@ -1,5 +1,5 @@
 //! The program over files in memory.
-use fixtures::{Image, RunOutput, same};
+use fixtures::{Image, Report, RunOutput, same};
 use memory_runtime::{Disk, Kind, MemoryRuntime};
 use std::alloc::Global;
 use std::fmt::Display;
@@ -81,43 +81,35 @@ pub fn check_printed<W: Display + Drop>(
     same(command, differs, None)
 }
 
-/// Runs format with these options and names, which has to print this text and the root hash after it.
-pub fn check_format(
+/// Runs format with these words, which has to print this report with this root hash.
+pub fn check_format<W: Display + Drop>(
     alloc: Global,
     disk: &Disk,
-    options: &str,
-    (data, hash): (&str, &str),
-    (text, root): (&str, &str),
+    words: W,
+    report: &Report<'_>,
+    root: &[u8],
 ) -> Result<(), Fail> {
-    let text = format!(in alloc; "{text}Root hash:       \t{root}\n")?;
-    let words = format_args!("{options} {data} {hash}");
+    let text = report.with_root(alloc, root)?;
     check_printed(alloc, disk, "format", words, text.as_str())
 }
 
-/// The image of a file is made, dumped and verified, with these options and under these names. Dump has to print this
-/// text, and format the root hash after it.
+/// The image of a file is made, dumped and verified, with these options. Its report names the hash device.
 pub fn check_image(
     alloc: Global,
     disk: &Disk,
     image: &Image,
     options: &str,
-    (data, hash): (&str, &str),
-    text: &str,
+    data: &str,
+    report: &Report<'_>,
 ) -> Result<(), Fail> {
-    let root = hex::encode(alloc, image.root.as_slice())?;
-    check_format(alloc, disk, options, (data, hash), (text, root.as_str()))?;
-    check_printed(alloc, disk, "dump", hash, text)?;
-    check_printed(
-        alloc,
-        disk,
-        "verify",
-        format_args!("{data} {hash} {root}"),
-        "",
-    )?;
+    let (hash, root) = (report.path, image.root.as_slice());
+    let words = format_args!("{options} {data} {hash}");
+    check_format(alloc, disk, words, report, root)?;
+    let text = report.text(alloc)?;
+    check_printed(alloc, disk, "dump", hash, text.as_str())?;
+    let root = hex::encode(alloc, root)?;
+    let words = format_args!("{data} {hash} {root}");
+    check_printed(alloc, disk, "verify", words, "")?;
     let device = disk.bytes_of(hash)?;
-    same(
-        "the hash device",
-        device.as_slice(),
-        image.device.as_slice(),
-    )
+    same(hash, device.as_slice(), image.device.as_slice())
 }

@@ -164,30 +164,17 @@ fn wrong_format(
     })
 }
 
-/// What goes wrong with a seed and options: the run, the hash device, or the number of random bytes that are asked for.
-fn first_wrong(
-    alloc: Global,
-    seed: [u8; 32],
-    options: Options,
-) -> Result<Option<&'static str>, Fail> {
-    let disk = disk_of(alloc, data(alloc, 8704)?.as_slice())?;
-    if let Some(what) = wrong_format(alloc, &disk, seed, options)? {
-        return Ok(Some(what));
-    }
-    let asked = if options.1 || options.2 { 32 } else { 0 };
-    Ok(if disk.random_bytes()? == asked {
-        None
-    } else {
-        Some("the number of random bytes")
-    })
-}
-
+/// Nothing goes wrong, and no other random bytes are asked for.
 #[test]
 fn salt_and_uuid_are_drawn_by_a_seed_of_32_bytes(rt: HostRuntime) -> Result<(), Fail> {
+    let alloc = rt.alloc();
     for &seed in &SEEDS {
         for &options in &OPTIONS {
-            let wrong = first_wrong(rt.alloc(), seed, options)?;
-            same(format_args!("{seed:?}, {options:?}"), wrong, None)?;
+            let disk = disk_of(alloc, data(alloc, 8704)?.as_slice())?;
+            let wrong = wrong_format(alloc, &disk, seed, options)?;
+            let asked = if options.1 || options.2 { 32 } else { 0 };
+            let found = (wrong, disk.random_bytes()?);
+            same(format_args!("{seed:?}, {options:?}"), found, (None, asked))?;
         }
     }
     Ok(())

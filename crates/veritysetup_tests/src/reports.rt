@@ -131,33 +131,27 @@ fn wrong_dump(
     Ok(dump.differs(0, text.as_bytes(), b""))
 }
 
-/// What goes wrong in format, with a superblock or without, or then in verify or dump.
-fn first_wrong(
+/// What goes wrong in format, with a superblock or without, and then in verify and in dump.
+fn wrong_in(
     alloc: Global,
     row: Row,
     has_superblock: bool,
-) -> Result<Option<(&'static str, &'static str)>, Fail> {
+) -> Result<[Option<&'static str>; 3], Fail> {
     let tree = tree_of(alloc, row)?;
     let disk = disk_of(alloc, data(alloc, 8704)?.as_slice())?;
-    if let Some(what) = wrong_format(alloc, &disk, row, &tree, has_superblock)? {
-        return Ok(Some(("format", what)));
-    }
-    let root = tree.root.as_slice();
-    if let Some(what) = wrong_verify(alloc, &disk, row, root, has_superblock)? {
-        return Ok(Some(("verify", what)));
-    }
-    Ok(match wrong_dump(alloc, &disk, row, has_superblock)? {
-        Some(what) => Some(("dump", what)),
-        None => None,
-    })
+    Ok([
+        wrong_format(alloc, &disk, row, &tree, has_superblock)?,
+        wrong_verify(alloc, &disk, row, tree.root.as_slice(), has_superblock)?,
+        wrong_dump(alloc, &disk, row, has_superblock)?,
+    ])
 }
 
 #[test]
 fn each_hash_function_and_type_is_reported_and_verified(rt: HostRuntime) -> Result<(), Fail> {
     for &row in &ROWS {
         for &has_superblock in &[true, false] {
-            let wrong = first_wrong(rt.alloc(), row, has_superblock)?;
-            same(format_args!("{row:?}, {has_superblock}"), wrong, None)?;
+            let wrong = wrong_in(rt.alloc(), row, has_superblock)?;
+            same(format_args!("{row:?}, {has_superblock}"), wrong, [None; 3])?;
         }
     }
     Ok(())

@@ -1,5 +1,5 @@
 //! The hash device and the folder of a new one are synced.
-use crate::program_runs::{check_end, check_opened, disk_of, disk_of_two, run};
+use crate::program_runs::{check_opened, disk_of, disk_of_two, run};
 use fixtures::same;
 use memory_runtime::{Call, Kind};
 use std::alloc::Global;
@@ -42,24 +42,21 @@ fn the_folder_of_a_new_file_is_synced(rt: HostRuntime) -> Result<(), Fail> {
     Ok(())
 }
 
-/// Words with a HASH that is there or is new, the number of the sync that fails, of the file or of its folder, and the
-/// message.
-const UNSYNCED: [(&str, u64, &str); 3] = [
-    (
-        "veritysetup format data hash.img",
-        1,
-        "Cannot write hash.img.\n",
-    ),
-    ("veritysetup format data hash", 1, "Cannot write hash.\n"),
-    ("veritysetup format data hash", 2, "Cannot write hash.\n"),
-];
+/// HASH, which is there or is new, and the number of the sync that fails: of the file, or of its folder.
+const UNSYNCED: [(&str, u64); 3] = [("hash.img", 1), ("hash", 1), ("hash", 2)];
 
 #[test]
 fn a_hash_device_that_is_not_synced_is_a_fault(rt: HostRuntime) -> Result<(), Fail> {
-    for &(words, number, message) in &UNSYNCED {
-        let disk = disk_of_two(rt.alloc())?;
+    let alloc = rt.alloc();
+    for &(path, number) in &UNSYNCED {
+        let disk = disk_of_two(alloc)?;
         disk.fail(Call::Sync, number)?;
-        check_end(rt.alloc(), &disk, words, (4, message))?;
+        let words = format!(in alloc; "veritysetup format data {path}")?;
+        let message = format!(in alloc; "Cannot write {path}.\n")?;
+        let output = run(alloc, &disk, words.as_str());
+        let found = (output.status, output.msgs.as_slice());
+        let at = format_args!("sync {number} of {path}");
+        same(at, found, (4, message.as_bytes()))?;
     }
     Ok(())
 }

@@ -3,7 +3,7 @@
 use crate::program_runs::{check_format, check_image, check_printed, disk_of};
 use fixtures::{Image, REPORT_17, Report, image_17, image_of, same, with_zeros};
 use memory_runtime::{Disk, Kind};
-use std::alloc::{AllocError, Global};
+use std::alloc::Global;
 use std::io;
 use std::test::Fail;
 
@@ -17,15 +17,7 @@ fn check_small(alloc: Global, kind: Kind) -> Result<(), Fail> {
     let disk = disk_of(alloc, &[])?;
     disk.make_kind("data", kind, image.data.to_vec(alloc)?)?;
     disk.make("hash.img", Vec::new(alloc))?;
-    let text = REPORT_17.text(alloc)?;
-    check_image(
-        alloc,
-        &disk,
-        &image,
-        SMALL,
-        ("data", "hash.img"),
-        text.as_str(),
-    )
+    check_image(alloc, &disk, &image, SMALL, "data", &REPORT_17)
 }
 
 #[test]
@@ -39,38 +31,24 @@ fn an_image_of_a_block_device_is_made_dumped_and_verified(rt: HostRuntime) -> Re
     check_small(rt.alloc(), Kind::Block)
 }
 
-/// The data of an image, and other bytes after it in the same file.
+/// A disk with the data of an image, and other bytes after it in the same file.
 fn disk_of_one_file(alloc: Global, image: &Image) -> io::Result<Disk> {
     let data = with_zeros(alloc, &[image.data.as_slice(), &[77; 1000]], 0)?;
     disk_of(alloc, data.as_slice())
 }
 
-/// The options of the image in one file.
-const ONE_FILE: &str =
-    "--data-block-size 512 --hash-block-size 512 --salt=- --uuid 00112233-4455-4677-8899-aabbccddeeff --data-blocks 17 --hash-offset 8704";
-
-/// The image with this root hash is made, dumped and verified in one file, which has to hold these bytes then.
-fn check_one_file(alloc: Global, disk: &Disk, root: &str, whole: &[u8]) -> Result<(), Fail> {
+/// The image of this root hash is made, dumped and verified in one file, which has to hold these bytes then.
+fn check_one_file(alloc: Global, disk: &Disk, root: &[u8], whole: &[u8]) -> Result<(), Fail> {
     let report = Report {
         path: "data",
         ..REPORT_17
     };
-    let text = report.text(alloc)?;
-    check_format(
-        alloc,
-        disk,
-        ONE_FILE,
-        ("data", "data"),
-        (text.as_str(), root),
-    )?;
+    let words = format_args!("{SMALL} --data-blocks 17 --hash-offset 8704 data data");
+    check_format(alloc, disk, words, &report, root)?;
     same("data", disk.bytes_of("data")?.as_slice(), whole)?;
-    check_printed(
-        alloc,
-        disk,
-        "dump",
-        "--hash-offset 8704 data",
-        text.as_str(),
-    )?;
+    let (words, text) = ("--hash-offset 8704 data", report.text(alloc)?);
+    check_printed(alloc, disk, "dump", words, text.as_str())?;
+    let root = hex::encode(alloc, root)?;
     let words = format_args!("--hash-offset 8704 data data {root}");
     check_printed(alloc, disk, "verify", words, "")
 }
@@ -81,13 +59,12 @@ fn data_and_hash_area_may_be_in_one_file(rt: HostRuntime) -> Result<(), Fail> {
     let alloc = rt.alloc();
     let image = image_17(alloc)?;
     let disk = disk_of_one_file(alloc, &image)?;
-    let root = hex::encode(alloc, image.root.as_slice())?;
     let whole = with_zeros(alloc, &[image.data.as_slice(), image.device.as_slice()], 0)?;
-    check_one_file(alloc, &disk, root.as_str(), whole.as_slice())
+    check_one_file(alloc, &disk, image.root.as_slice(), whole.as_slice())
 }
 
-/// The report of the largest image.
-fn largest_report<'a>(alloc: Global, path: &'a str, salt: &'a str) -> Result<String, AllocError> {
+/// The largest image is made, dumped and verified with this path and this salt.
+fn check_largest<'a>(alloc: Global, path: &'a str, salt: &'a str) -> Result<(), Fail> {
     let report = Report {
         path,
         blocks: 2,
@@ -95,7 +72,13 @@ fn largest_report<'a>(alloc: Global, path: &'a str, salt: &'a str) -> Result<Str
         salt,
         ..REPORT_17
     };
-    report.text(alloc)
+    let options = format!(in alloc;
+        "--data-block-size 524288 --hash-block-size 524288 --salt {salt} --uuid 00112233-4455-4677-8899-aabbccddeeff"
+    )?;
+    let image = image_of(alloc, 524_288, &[0xab; 256], 2, 1)?;
+    let disk = disk_of(alloc, image.data.as_slice())?;
+    disk.make(path, Vec::new(alloc))?;
+    check_image(alloc, &disk, &image, options.as_str(), "data", &report)
 }
 
 #[test]
@@ -103,13 +86,5 @@ fn the_largest_image_is_made_dumped_and_verified(rt: HostRuntime) -> Result<(), 
     let alloc = rt.alloc();
     let path = "a/ü".repeat(alloc, 1024)?;
     let salt = hex::encode(alloc, &[0xab; 256])?;
-    let image = image_of(alloc, 524_288, &[0xab; 256], 2, 1)?;
-    let disk = disk_of(alloc, image.data.as_slice())?;
-    disk.make(path.as_str(), Vec::new(alloc))?;
-    let text = largest_report(alloc, path.as_str(), salt.as_str())?;
-    let options = format!(in alloc;
-        "--data-block-size 524288 --hash-block-size 524288 --salt {salt} --uuid 00112233-4455-4677-8899-aabbccddeeff"
-    )?;
-    let (options, names) = (options.as_str(), ("data", path.as_str()));
-    check_image(alloc, &disk, &image, options, names, text.as_str())
+    check_largest(alloc, path.as_str(), salt.as_str())
 }
