@@ -36,9 +36,9 @@ fn check_grown(alloc: Global, image: &Image, words: &str, row: Row) -> Result<()
     let disk = growing_disk(alloc, image, length)?;
     let output = run_with_last(alloc, &disk, words, Some(root.as_bytes()));
     let differs = output.differs(status, b"", message.as_bytes());
-    same(format_args!("{words}, {length} bytes"), differs, None)?;
     let grown = disk.bytes_of("data")?;
-    same(length, grown.as_slice(), image.data.as_slice())
+    let (at, found) = (format_args!("{words}, {length} bytes"), grown.as_slice());
+    same(at, (differs, found), (None, image.data.as_slice()))
 }
 
 #[test]

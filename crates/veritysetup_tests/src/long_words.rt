@@ -1,6 +1,7 @@
 //! Words of more than 1024 bytes, with ample memory: paths, the values of options, and words that are refused.
-use crate::program_runs::{check_image, disk_of, run, run_with_last};
+use crate::program_runs::{check_image, disk_of, disk_with, run_with_last};
 use fixtures::{REPORT_17, Report, image_17, same};
+use memory_runtime::Kind;
 use std::alloc::{AllocError, Global};
 use std::test::Fail;
 
@@ -19,8 +20,7 @@ fn long_options(alloc: Global) -> Result<String, AllocError> {
 /// The image of 17 blocks is made, dumped and verified under these names.
 fn check_names(alloc: Global, data: &str, hash: &str) -> Result<(), Fail> {
     let image = image_17(alloc)?;
-    let disk = disk_of(alloc, &[])?;
-    disk.make(data, image.data.to_vec(alloc)?)?;
+    let disk = disk_with(alloc, data, Kind::Plain, image.data.as_slice())?;
     let options = long_options(alloc)?;
     let report = Report {
         path: hash,
@@ -74,15 +74,26 @@ const REFUSED: [(&str, &str, &str); 9] = [
     ),
 ];
 
+/// The program has to refuse these words, and one more if there is one, with this status and this message.
+fn check_refused(
+    alloc: Global,
+    at: &str,
+    (words, last_word): (&str, Option<&[u8]>),
+    status: u8,
+    message: &str,
+) -> Result<(), Fail> {
+    let disk = disk_of(alloc, &[5; 8192])?;
+    let output = run_with_last(alloc, &disk, words, last_word);
+    same(at, output.differs(status, b"", message.as_bytes()), None)
+}
+
 #[test]
 fn long_values_are_refused_with_their_messages(rt: HostRuntime) -> Result<(), Fail> {
     let alloc = rt.alloc();
-    let disk = disk_of(alloc, &[5; 8192])?;
     let long = "ab".repeat(alloc, MANY)?;
     for &(before, after, message) in &REFUSED {
         let words = format!(in alloc; "veritysetup {before}{long}{after}")?;
-        let differs = run(alloc, &disk, words.as_str()).differs(1, b"", message.as_bytes());
-        same(before, differs, None)?;
+        check_refused(alloc, before, (words.as_str(), None), 1, message)?;
     }
     Ok(())
 }
@@ -90,23 +101,19 @@ fn long_values_are_refused_with_their_messages(rt: HostRuntime) -> Result<(), Fa
 #[test]
 fn a_long_name_stands_in_the_message(rt: HostRuntime) -> Result<(), Fail> {
     let alloc = rt.alloc();
-    let disk = disk_of(alloc, &[5; 8192])?;
     let name = "long/".repeat(alloc, MANY)?;
     let words = format!(in alloc; "veritysetup format {name} hash")?;
     let message = format!(in alloc; "Cannot open {name}.\n")?;
-    let differs = run(alloc, &disk, words.as_str()).differs(4, b"", message.as_bytes());
-    same("a long name", differs, None)
+    let words = (words.as_str(), None);
+    check_refused(alloc, "a long name", words, 4, message.as_str())
 }
 
 #[test]
 fn a_long_word_that_is_not_utf8_is_refused(rt: HostRuntime) -> Result<(), Fail> {
     let alloc = rt.alloc();
-    let disk = disk_of(alloc, &[5; 8192])?;
     let word = vec![in alloc; 0xff_u8; MANY]?;
     let escaped = "\\xff".repeat(alloc, MANY)?;
     let message = format!(in alloc; "error: argument 3 is not UTF-8: {escaped}\n")?;
-    let (words, last_word) = ("veritysetup format data", Some(word.as_slice()));
-    let output = run_with_last(alloc, &disk, words, last_word);
-    let differs = output.differs(1, b"", message.as_bytes());
-    same("a long word", differs, None)
+    let words = ("veritysetup format data", Some(word.as_slice()));
+    check_refused(alloc, "a long word", words, 1, message.as_str())
 }

@@ -1,6 +1,6 @@
 //! The program over files in memory.
 use fixtures::{Image, Report, RunOutput, same};
-use memory_runtime::{Disk, Kind, MemoryRuntime};
+use memory_runtime::{Call, Disk, Kind, MemoryRuntime};
 use std::alloc::Global;
 use std::fmt::Display;
 use std::io;
@@ -20,10 +20,18 @@ pub fn disk_of(alloc: Global, data: &[u8]) -> io::Result<Disk> {
     Ok(disk)
 }
 
-/// The same with 8192 bytes in `data` and in `hash.img`.
-pub fn disk_of_two(alloc: Global) -> io::Result<Disk> {
+/// A disk as `disk_of` makes it, with these bytes in a file of this name and kind.
+pub fn disk_with(alloc: Global, name: &str, kind: Kind, bytes: &[u8]) -> io::Result<Disk> {
+    let disk = disk_of(alloc, &[])?;
+    disk.make_kind(name, kind, bytes.to_vec(alloc)?)?;
+    Ok(disk)
+}
+
+/// A disk as `disk_of` makes it, with 8192 bytes in `data` and in `hash.img`, on which the call of this number fails.
+pub fn failing_disk(alloc: Global, call: Call, number: u64) -> io::Result<Disk> {
     let disk = disk_of(alloc, &[5; 8192])?;
     disk.make("hash.img", [0; 8192].to_vec(alloc)?)?;
+    disk.fail(call, number)?;
     Ok(disk)
 }
 
@@ -93,6 +101,21 @@ pub fn check_format<W: Display + Drop>(
     check_printed(alloc, disk, "format", words, text.as_str())
 }
 
+/// Runs dump and verify with these words, which have to print this report and nothing. The root hash is the last word
+/// of verify.
+pub fn check_stored<W: Display + Drop>(
+    alloc: Global,
+    disk: &Disk,
+    (dump, verify): (&str, W),
+    report: &Report<'_>,
+    root: &[u8],
+) -> Result<(), Fail> {
+    let text = report.text(alloc)?;
+    check_printed(alloc, disk, "dump", dump, text.as_str())?;
+    let root = hex::encode(alloc, root)?;
+    check_printed(alloc, disk, "verify", format_args!("{verify} {root}"), "")
+}
+
 /// The image of a file is made, dumped and verified, with these options. Its report names the hash device.
 pub fn check_image(
     alloc: Global,
@@ -105,11 +128,8 @@ pub fn check_image(
     let (hash, root) = (report.path, image.root.as_slice());
     let words = format_args!("{options} {data} {hash}");
     check_format(alloc, disk, words, report, root)?;
-    let text = report.text(alloc)?;
-    check_printed(alloc, disk, "dump", hash, text.as_str())?;
-    let root = hex::encode(alloc, root)?;
-    let words = format_args!("{data} {hash} {root}");
-    check_printed(alloc, disk, "verify", words, "")?;
+    let words = (hash, format_args!("{data} {hash}"));
+    check_stored(alloc, disk, words, report, root)?;
     let device = disk.bytes_of(hash)?;
     same(hash, device.as_slice(), image.device.as_slice())
 }

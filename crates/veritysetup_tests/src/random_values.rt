@@ -1,7 +1,7 @@
 //! The salt and the UUID that format draws if they aren't given: both come from a generator of the crate `rand` that is
 //! seeded with 32 bytes of the system. Without these there is no hash device.
 use crate::program_runs::{disk_of, output_of};
-use fixtures::{REPORT_17, Report, RunOutput, UUID, UUID_AT, data, image_of, lay, same};
+use fixtures::{Image, REPORT_17, Report, RunOutput, UUID, UUID_AT, data, image_of, lay, same};
 use memory_runtime::{Disk, MemoryRuntime};
 use rand::rngs::StdRng;
 use rand::{Rng, SeedableRng};
@@ -146,6 +146,19 @@ fn run_with_random<'a>(
     output_of(alloc, &runtime)
 }
 
+/// The image of 17 blocks with a seed and options, and what format has to print of it.
+fn expected(
+    alloc: Global,
+    seed: [u8; 32],
+    options: Options,
+) -> Result<(Image, String), AllocError> {
+    let (salt, uuid) = values(alloc, seed, options)?;
+    let mut image = image_of(alloc, 512, salt.as_slice(), 17, 2)?;
+    lay(&mut image.device, &[(UUID_AT, &uuid)]);
+    let text = printed(alloc, salt.as_slice(), &uuid, image.root.as_slice())?;
+    Ok((image, text))
+}
+
 /// What goes wrong in the run or on the hash device with a seed and options.
 fn wrong_format(
     alloc: Global,
@@ -153,10 +166,7 @@ fn wrong_format(
     seed: [u8; 32],
     options: Options,
 ) -> Result<Option<&'static str>, Fail> {
-    let (salt, uuid) = values(alloc, seed, options)?;
-    let mut image = image_of(alloc, 512, salt.as_slice(), 17, 2)?;
-    lay(&mut image.device, &[(UUID_AT, &uuid)]);
-    let text = printed(alloc, salt.as_slice(), &uuid, image.root.as_slice())?;
+    let (image, text) = expected(alloc, seed, options)?;
     let differs = formatted(alloc, disk, &seed, options.0)?.differs(0, text.as_bytes(), b"");
     Ok(match differs {
         None if disk.bytes_of("hash")? != image.device => Some("the hash device"),
@@ -164,16 +174,23 @@ fn wrong_format(
     })
 }
 
-/// Nothing goes wrong, and no other random bytes are asked for.
+/// What goes wrong with a seed and options, and how many random bytes are asked for.
+fn wrong_in(
+    alloc: Global,
+    seed: [u8; 32],
+    options: Options,
+) -> Result<(Option<&'static str>, u64), Fail> {
+    let disk = disk_of(alloc, data(alloc, 8704)?.as_slice())?;
+    let wrong = wrong_format(alloc, &disk, seed, options)?;
+    Ok((wrong, disk.random_bytes()?))
+}
+
 #[test]
 fn salt_and_uuid_are_drawn_by_a_seed_of_32_bytes(rt: HostRuntime) -> Result<(), Fail> {
-    let alloc = rt.alloc();
     for &seed in &SEEDS {
         for &options in &OPTIONS {
-            let disk = disk_of(alloc, data(alloc, 8704)?.as_slice())?;
-            let wrong = wrong_format(alloc, &disk, seed, options)?;
+            let found = wrong_in(rt.alloc(), seed, options)?;
             let asked = if options.1 || options.2 { 32 } else { 0 };
-            let found = (wrong, disk.random_bytes()?);
             same(format_args!("{seed:?}, {options:?}"), found, (None, asked))?;
         }
     }

@@ -1,6 +1,7 @@
 //! Command lines that are refused, with which text.
 use crate::program_runs::{disk_of, run_with_last};
 use fixtures::same;
+use memory_runtime::Disk;
 use std::alloc::Global;
 use std::test::Fail;
 use veritysetup::{LineFault, read_words};
@@ -86,16 +87,20 @@ fn is_refused_without_words(alloc: Global) -> bool {
     matches!(read_words(alloc, &[]), Err(LineFault::Refused(_)))
 }
 
+/// The program has to refuse each of the words.
+fn check_refused(alloc: Global, disk: &Disk) -> Result<(), Fail> {
+    for &(words, last_word, message) in &REFUSED {
+        let output = run_with_last(alloc, disk, words, last_word);
+        same(words, output.differs(1, b"", message.as_bytes()), None)?;
+    }
+    Ok(())
+}
+
 #[test]
 fn refused_words_open_no_file(rt: HostRuntime) -> Result<(), Fail> {
     let alloc = rt.alloc();
     same("no words", is_refused_without_words(alloc), true)?;
     let disk = disk_of(alloc, &[5; 8192])?;
-    for &(words, last_word, message) in &REFUSED {
-        let output = run_with_last(alloc, &disk, words, last_word);
-        let differs = output.differs(1, b"", message.as_bytes());
-        same(words, differs, None)?;
-    }
-    let opened = disk.opened()?;
-    same("what is opened", opened.as_str(), "")
+    check_refused(alloc, &disk)?;
+    same("what is opened", disk.opened()?.as_str(), "")
 }

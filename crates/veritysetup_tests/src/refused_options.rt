@@ -1,6 +1,8 @@
 //! The message of each option that is refused, whole, from a run of the program.
 use crate::program_runs::{disk_of, run};
 use fixtures::same;
+use memory_runtime::Disk;
+use std::alloc::Global;
 use std::test::Fail;
 
 const BAD_UUID: &str = "UUID is not valid.\n";
@@ -90,15 +92,18 @@ const REFUSED: [(&str, &str); 29] = [
     ("verify --no-superblock --salt=- data hash root", BAD_ROOT),
 ];
 
-/// Each has status 1, and leaves no hash device.
+/// The program has to refuse these words with status 1 and this message, and to leave no hash device.
+fn check_refused(alloc: Global, disk: &Disk, words: &str, message: &str) -> Result<(), Fail> {
+    let line = format!(in alloc; "veritysetup {words}")?;
+    let differs = run(alloc, disk, line.as_str()).differs(1, b"", message.as_bytes());
+    same(words, (differs, disk.has("hash")?), (None, false))
+}
+
 #[test]
 fn each_refused_option_has_its_message(rt: HostRuntime) -> Result<(), Fail> {
-    let alloc = rt.alloc();
-    let disk = disk_of(alloc, &[5; 8192])?;
+    let disk = disk_of(rt.alloc(), &[5; 8192])?;
     for &(words, message) in &REFUSED {
-        let line = format!(in alloc; "veritysetup {words}")?;
-        let differs = run(alloc, &disk, line.as_str()).differs(1, b"", message.as_bytes());
-        same(words, (differs, disk.has("hash")?), (None, false))?;
+        check_refused(rt.alloc(), &disk, words, message)?;
     }
     Ok(())
 }

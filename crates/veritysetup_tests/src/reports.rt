@@ -6,6 +6,9 @@ use std::alloc::{AllocError, Global};
 use std::test::Fail;
 use verity_hash::Algorithm;
 
+/// What goes wrong, if anything does.
+type Wrong = Option<&'static str>;
+
 /// A hash function and its name, a hash type, and the number and the width of the slots of a hash block of 512 bytes.
 type Row = (Algorithm, &'static str, u8, (usize, usize));
 
@@ -33,17 +36,24 @@ fn tree_of(alloc: Global, row: Row) -> Result<Tree, AllocError> {
     shape.tree(alloc, data(alloc, 8704)?.as_slice(), 2)
 }
 
-/// The superblock, if there is one, and the tree.
-fn device_of(
+/// What is wrong if the hash device isn't the superblock, if there is one, and the tree.
+fn wrong_device(
     alloc: Global,
+    disk: &Disk,
     row: Row,
     tree: &Tree,
     has_superblock: bool,
-) -> Result<Vec<u8>, AllocError> {
+) -> Result<Wrong, Fail> {
     let (_, name, hash_type, _) = row;
     let superblock = superblock(hash_type, name.as_bytes(), (512, 512), 17, &SALT);
     let front: &[u8] = if has_superblock { &superblock } else { &[] };
-    with_zeros(alloc, &[front, tree.on_device(alloc, 0)?.as_slice()], 0)
+    let area = tree.on_device(alloc, 0)?;
+    let device = with_zeros(alloc, &[front, area.as_slice()], 0)?;
+    Ok(if disk.bytes_of("hash")? == device {
+        None
+    } else {
+        Some("the hash device")
+    })
 }
 
 /// The report.
@@ -82,19 +92,14 @@ fn wrong_format(
     row: Row,
     tree: &Tree,
     has_superblock: bool,
-) -> Result<Option<&'static str>, Fail> {
+) -> Result<Wrong, Fail> {
     let words = words_of_format(alloc, row, has_superblock)?;
     let text = report_of(row, has_superblock).with_root(alloc, tree.root.as_slice())?;
     let output = run(alloc, disk, words.as_str());
     if let Some(what) = output.differs(0, text.as_bytes(), b"") {
         return Ok(Some(what));
     }
-    let device = device_of(alloc, row, tree, has_superblock)?;
-    Ok(if disk.bytes_of("hash")? == device {
-        None
-    } else {
-        Some("the hash device")
-    })
+    wrong_device(alloc, disk, row, tree, has_superblock)
 }
 
 /// What verify prints that isn't as it should be. Without a superblock its words have the options of format.
@@ -104,7 +109,7 @@ fn wrong_verify(
     (_, name, hash_type, _): Row,
     root: &[u8],
     has_superblock: bool,
-) -> Result<Option<&'static str>, Fail> {
+) -> Result<Wrong, Fail> {
     let root = hex::encode(alloc, root)?;
     let words = if has_superblock {
         format!(in alloc; "veritysetup verify data hash {root}")?
@@ -117,12 +122,7 @@ fn wrong_verify(
 }
 
 /// What dump prints that isn't as it should be.
-fn wrong_dump(
-    alloc: Global,
-    disk: &Disk,
-    row: Row,
-    has_superblock: bool,
-) -> Result<Option<&'static str>, Fail> {
+fn wrong_dump(alloc: Global, disk: &Disk, row: Row, has_superblock: bool) -> Result<Wrong, Fail> {
     let dump = run(alloc, disk, "veritysetup dump hash");
     if !has_superblock {
         return Ok(dump.differs(1, b"", b"No verity superblock.\n"));
@@ -132,26 +132,22 @@ fn wrong_dump(
 }
 
 /// What goes wrong in format, with a superblock or without, and then in verify and in dump.
-fn wrong_in(
-    alloc: Global,
-    row: Row,
-    has_superblock: bool,
-) -> Result<[Option<&'static str>; 3], Fail> {
+fn wrong_in(alloc: Global, row: Row, has_superblock: bool) -> Result<(Wrong, Wrong, Wrong), Fail> {
     let tree = tree_of(alloc, row)?;
     let disk = disk_of(alloc, data(alloc, 8704)?.as_slice())?;
-    Ok([
-        wrong_format(alloc, &disk, row, &tree, has_superblock)?,
-        wrong_verify(alloc, &disk, row, tree.root.as_slice(), has_superblock)?,
-        wrong_dump(alloc, &disk, row, has_superblock)?,
-    ])
+    let format = wrong_format(alloc, &disk, row, &tree, has_superblock)?;
+    let verify = wrong_verify(alloc, &disk, row, tree.root.as_slice(), has_superblock)?;
+    let dump = wrong_dump(alloc, &disk, row, has_superblock)?;
+    Ok((format, verify, dump))
 }
 
 #[test]
 fn each_hash_function_and_type_is_reported_and_verified(rt: HostRuntime) -> Result<(), Fail> {
     for &row in &ROWS {
         for &has_superblock in &[true, false] {
+            let at = format_args!("{row:?}, {has_superblock}");
             let wrong = wrong_in(rt.alloc(), row, has_superblock)?;
-            same(format_args!("{row:?}, {has_superblock}"), wrong, [None; 3])?;
+            same(at, wrong, (None, None, None))?;
         }
     }
     Ok(())

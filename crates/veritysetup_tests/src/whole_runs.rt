@@ -1,6 +1,6 @@
 //! Whole runs of each command over files in memory: of a small image, in a file and on a block device, and of one with
 //! the largest blocks, the longest salt and the longest path.
-use crate::program_runs::{check_format, check_image, check_printed, disk_of};
+use crate::program_runs::{check_format, check_image, check_stored, disk_of, disk_with};
 use fixtures::{Image, REPORT_17, Report, image_17, image_of, same, with_zeros};
 use memory_runtime::{Disk, Kind};
 use std::alloc::Global;
@@ -14,8 +14,7 @@ const SMALL: &str =
 /// The small image is made, dumped and verified, of data in a file of a kind.
 fn check_small(alloc: Global, kind: Kind) -> Result<(), Fail> {
     let image = image_17(alloc)?;
-    let disk = disk_of(alloc, &[])?;
-    disk.make_kind("data", kind, image.data.to_vec(alloc)?)?;
+    let disk = disk_with(alloc, "data", kind, image.data.as_slice())?;
     disk.make("hash.img", Vec::new(alloc))?;
     check_image(alloc, &disk, &image, SMALL, "data", &REPORT_17)
 }
@@ -46,11 +45,8 @@ fn check_one_file(alloc: Global, disk: &Disk, root: &[u8], whole: &[u8]) -> Resu
     let words = format_args!("{SMALL} --data-blocks 17 --hash-offset 8704 data data");
     check_format(alloc, disk, words, &report, root)?;
     same("data", disk.bytes_of("data")?.as_slice(), whole)?;
-    let (words, text) = ("--hash-offset 8704 data", report.text(alloc)?);
-    check_printed(alloc, disk, "dump", words, text.as_str())?;
-    let root = hex::encode(alloc, root)?;
-    let words = format_args!("--hash-offset 8704 data data {root}");
-    check_printed(alloc, disk, "verify", words, "")
+    let words = ("--hash-offset 8704 data", "--hash-offset 8704 data data");
+    check_stored(alloc, disk, words, &report, root)
 }
 
 /// The hash area begins after the data that is covered, over other bytes.
