@@ -1,7 +1,7 @@
 //! Devices over files: blocks of many lengths at many offsets, up to the largest, files that refuse an offset, and many
 //! interrupts.
 use crate::sparse::{FAR, INTERRUPTS, Sparse};
-use fixtures::data;
+use fixtures::{data, same};
 use std::alloc::Global;
 use std::io;
 use std::io::{ErrorKind, Read, Seek, SeekFrom, Write};
@@ -52,7 +52,7 @@ fn blocks_of_each_length_stand_at_each_offset(rt: HostRuntime) -> Result<(), Fai
     let alloc = rt.alloc();
     for &length in &LENGTHS {
         let wrong = first_wrong(alloc, data(alloc, length)?.as_slice())?;
-        assert_eq!(rt; wrong, None, "at {length}");
+        same(length, wrong, None)?;
     }
     Ok(())
 }
@@ -103,7 +103,7 @@ fn long_blocks_stand_at_far_offsets(rt: HostRuntime) -> Result<(), Fail> {
             device.write_at(100, b"a"),
         ];
         let found = (results, differs(&mut device, &mut buf, &reads));
-        assert_eq!(rt; found, ([Ok(()), Err(Failed)], None), "at {most}");
+        same(most, found, ([Ok(()), Err(Failed)], None))?;
     }
     Ok(())
 }
@@ -120,8 +120,8 @@ fn a_refused_offset_lies_past_the_end(rt: HostRuntime) -> Result<(), Fail> {
         (u64::MAX, Some(b"")),
     ];
     let found = differs(&mut device, &mut [9; 1], &reads);
-    assert_eq!(rt; (found, device.write_at(4, b"e")), (None, Err(Failed)));
-    Ok(())
+    let found = (found, device.write_at(4, b"e"));
+    same("a refused offset", found, (None, Err(Failed)))
 }
 
 /// The last bytes of the longest possible file. A read that would end past them isn't tried.
@@ -135,8 +135,8 @@ fn a_block_ends_at_the_largest_offset(rt: HostRuntime) -> Result<(), Fail> {
         (first + 1, None),
         (MOST_BYTES, Some(b"")),
     ];
-    assert_eq!(rt; differs(&mut device, &mut [9; 4], &reads), None);
-    Ok(())
+    let found = differs(&mut device, &mut [9; 4], &reads);
+    same("the largest offset", found, None)
 }
 
 #[test]
@@ -148,8 +148,7 @@ fn an_interrupted_device_tries_again(rt: HostRuntime) -> Result<(), Fail> {
     let written = device.write_at(0, bytes.as_slice());
     let mut buf = vec![in alloc; 7u8; 65_536]?;
     let found = differs(&mut device, &mut buf, &[(0, Some(bytes.as_slice()))]);
-    assert_eq!(rt; (written, found), (Ok(()), None));
-    Ok(())
+    same("an interrupted device", (written, found), (Ok(()), None))
 }
 
 /// A file that refuses each offset, and says only where it ends.
@@ -201,20 +200,21 @@ const REFUSED: [(u64, u64, Result<usize, Failed>); 12] = [
 ];
 
 #[test]
-fn a_refused_offset_is_past_the_end_or_a_failure(rt: HostRuntime) {
+fn a_refused_offset_is_past_the_end_or_a_failure() -> Result<(), Fail> {
     for &(end, at, result) in &REFUSED {
         let mut device = FileDevice::new(Refusing { end });
         let found = device.read_at(at, &mut [7; 1]);
-        assert_eq!(rt; found, result, "at {end}, {at}");
+        same(format_args!("{end}, {at}"), found, result)?;
     }
+    Ok(())
 }
 
 /// A read that would end past the largest offset isn't tried.
 #[test]
-fn an_empty_file_gives_nothing_from_any_offset(rt: HostRuntime) {
+fn an_empty_file_gives_nothing_from_any_offset(rt: HostRuntime) -> Result<(), Fail> {
     for &at in &[0, 1, 1 << 41, MOST_BYTES - 1, MOST_BYTES, u64::MAX] {
         let mut device = FileDevice::new(Sparse::new(0, Vec::new(rt.alloc()), usize::MAX, 0));
-        let result = device.read_at(at, &mut [7; 4096]);
-        assert_eq!(rt; result, Ok(0), "at {at}");
+        same(at, device.read_at(at, &mut [7; 4096]), Ok(0))?;
     }
+    Ok(())
 }

@@ -1,5 +1,6 @@
 //! What the system says of files: two names of one file are found, and other files are told apart.
 use command_line::{FileIdentity, Identities, StatFields, are_same_file};
+use fixtures::same;
 use std::fs::File;
 use std::os::unix::fs::MetadataExt;
 use std::rt::Files;
@@ -26,7 +27,7 @@ fn the_system_tells_files_apart(rt: HostRuntime) -> Result<(), Fail> {
     for &(path, has_identity, is_program) in &PATHS {
         let named = rt.path_identity(path);
         let found = (named.is_some(), are_same_file(opened, named));
-        assert_eq!(rt; found, (has_identity, is_program), "at {path}");
+        same(path, found, (has_identity, is_program))?;
     }
     Ok(())
 }
@@ -38,16 +39,14 @@ fn a_file_is_known_by_its_number_on_its_device(rt: HostRuntime) -> Result<(), Fa
         device: metadata.dev(),
         inode: metadata.ino(),
     };
-    assert_eq!(rt; rt.path_identity(PROGRAM), Some(identity));
-    Ok(())
+    same(PROGRAM, rt.path_identity(PROGRAM), Some(identity))
 }
 
 #[test]
 fn an_empty_file_is_a_file(rt: HostRuntime) -> Result<(), Fail> {
     let opened = rt.file_identity(&File::open(&rt, EMPTY)?);
     let is_same = are_same_file(opened, rt.path_identity(EMPTY));
-    assert_eq!(rt; (rt.metadata(EMPTY)?.len(), is_same), (0, true));
-    Ok(())
+    same(EMPTY, (rt.metadata(EMPTY)?.len(), is_same), (0, true))
 }
 
 /// The number that Linux gives the null device: 1 and 3, each in its bits (null(4), makedev(3)).
@@ -67,6 +66,5 @@ fn a_device_has_its_own_number(rt: HostRuntime) -> Result<(), Fail> {
         StatFields::of_metadata(&metadata),
         metadata.dev() == NULL_NUMBER,
     );
-    assert_eq!(rt; found, (status, false));
-    Ok(())
+    same("the null device", found, (status, false))
 }

@@ -1,6 +1,6 @@
 //! Sources and writers over files: a far offset, long reads and many interrupts.
 use crate::sparse::{FAR, INTERRUPTS, Sparse};
-use fixtures::data;
+use fixtures::{data, same};
 use std::test::Fail;
 use verity_format::put_all;
 use verity_io::{FileSource, Source};
@@ -14,8 +14,8 @@ fn long_reads_of_a_source_are_whole(rt: HostRuntime) -> Result<(), Fail> {
     let mut buf = vec![in alloc; 7u8; 80_000]?;
     let counts = [source.read(&mut buf), source.read(&mut buf)];
     let found = (counts, buf.get(..69_999));
-    assert_eq!(rt; found, ([Ok(69_999), Ok(0)], bytes.get(..69_999)));
-    Ok(())
+    let expected = ([Ok(69_999), Ok(0)], bytes.get(..69_999));
+    same("long reads", found, expected)
 }
 
 #[test]
@@ -26,8 +26,7 @@ fn an_interrupted_source_reads_again(rt: HostRuntime) -> Result<(), Fail> {
     let mut source = FileSource::new(file, 65_536);
     let mut buf = [7; 20_000];
     let found = (source.read(&mut buf), source.failures(), buf.get(..10_000));
-    assert_eq!(rt; found, (Ok(10_000), 0, bytes.get(..10_000)));
-    Ok(())
+    same("a read", found, (Ok(10_000), 0, bytes.get(..10_000)))
 }
 
 #[test]
@@ -36,9 +35,6 @@ fn an_interrupted_writer_is_tried_again(rt: HostRuntime) -> Result<(), Fail> {
     let text = data(alloc, 65_536)?;
     let mut writer = Sparse::new(0, Vec::new(alloc), 10_000, INTERRUPTS);
     let result = put_all(&mut writer, text.as_slice());
-    assert_eq!(rt;
-        (result, writer.bytes.as_slice()),
-        (Ok(()), text.as_slice())
-    );
-    Ok(())
+    let found = (result, writer.bytes.as_slice());
+    same("a text", found, (Ok(()), text.as_slice()))
 }

@@ -2,7 +2,7 @@
 use fixtures::{
     ALGORITHM_AT, DATA_BLOCK_SIZE_AT, DATA_BLOCKS_AT, DESCRIPTOR_SIZE, Field, HASH_BLOCK_SIZE_AT,
     HASH_TYPE_AT, LimitedWriter, SALT_AT, SALT_SIZE_AT, SIGNATURE_AT, SUPERBLOCK_SIZE, Shape, UUID,
-    UUID_AT, VERSION_AT, block, descriptor, lay, one_block,
+    UUID_AT, VERSION_AT, block, descriptor, lay, one_block, same,
 };
 use sha2::{Digest as Hasher, Sha512};
 use std::test::Fail;
@@ -14,7 +14,7 @@ use verity_hash::{Algorithm, Digest};
 use verity_plan::{HashType, TreeSettings};
 
 #[test]
-fn a_superblock_is_written_and_read(rt: HostRuntime) -> Result<(), Fail> {
+fn a_superblock_is_written_and_read() -> Result<(), Fail> {
     let salt = b"\xab\xcd\xef";
     let tree = TreeSettings::verity(Algorithm::Sha512, HashType::Current, salt, 512, 1024)?;
     let superblock = Superblock::new(&tree, UUID, 0x0001_0203_0405_0607).ok_or("many blocks")?;
@@ -31,8 +31,7 @@ fn a_superblock_is_written_and_read(rt: HostRuntime) -> Result<(), Fail> {
         (SALT_AT, salt),
     ]);
     let found = (write_superblock(&superblock), read_superblock(&expected));
-    assert_eq!(rt; found, (expected, Ok(superblock)));
-    Ok(())
+    same("a superblock", found, (expected, Ok(superblock)))
 }
 
 /// What differs from the superblock of one block, and the first fault.
@@ -55,20 +54,20 @@ const REFUSED: [(&[Field<'static>], SuperFault); 2] = [
 ];
 
 #[test]
-fn superblocks_are_refused(rt: HostRuntime) {
+fn superblocks_are_refused() -> Result<(), Fail> {
     for (changes, fault) in &REFUSED {
         let mut bytes = one_block();
         lay(&mut bytes[..], changes);
-        assert_eq!(rt; read_superblock(&bytes), Err(*fault));
+        same("changes", read_superblock(&bytes), Err(*fault))?;
     }
+    Ok(())
 }
 
 #[test]
-fn a_short_superblock_is_refused(rt: HostRuntime) -> Result<(), Fail> {
+fn a_short_superblock_is_refused() -> Result<(), Fail> {
     let bytes = one_block();
     let short = bytes.get(..SUPERBLOCK_SIZE - 1).ok_or("511 bytes")?;
-    assert_eq!(rt; read_superblock(short), Err(SuperFault::Short));
-    Ok(())
+    same("511 bytes", read_superblock(short), Err(SuperFault::Short))
 }
 
 /// Descriptors: the hash function, the salt, the size of a block, that of the file, and the first four bytes.
@@ -98,23 +97,22 @@ fn descriptors_are_written_and_hashed(rt: HostRuntime) -> Result<(), Fail> {
         let hashed = shape.digest(alloc, expected.as_slice())?;
         let (written, digest) = described(&tree, size, root.as_slice()).ok_or("a descriptor")?;
         let found = (written.as_slice(), digest.as_bytes());
-        assert_eq!(rt; found, (expected.as_slice(), hashed.as_slice()));
+        same(size, found, (expected.as_slice(), hashed.as_slice()))?;
     }
     Ok(())
 }
 
 #[test]
-fn a_digest_is_formatted(rt: HostRuntime) -> Result<(), Fail> {
+fn a_digest_is_formatted() -> Result<(), Fail> {
     let bytes = Sha512::digest(b"abc".as_slice());
     let digest = Digest::from_bytes(&bytes).ok_or("64 bytes")?;
     let formatted = formatted_digest(Algorithm::Sha512, &digest).ok_or("formatted")?;
     let expected: [u8; 76] = block(&[(0, b"FSVerity\x02\0\x40"), (12, &bytes)]);
-    assert_eq!(rt; formatted.as_bytes(), expected.as_slice());
-    Ok(())
+    same("a digest", formatted.as_bytes(), expected.as_slice())
 }
 
 #[test]
-fn texts_are_put_one_after_another(rt: HostRuntime) {
+fn texts_are_put_one_after_another(rt: HostRuntime) -> Result<(), Fail> {
     let mut out = Vec::new(rt.alloc());
     let results = [
         put_all(&mut out, b"root "),
@@ -122,25 +120,26 @@ fn texts_are_put_one_after_another(rt: HostRuntime) {
         put_all(&mut out, b"hash"),
     ];
     let found = (results, out.as_slice());
-    assert_eq!(rt; found, ([Ok(()); 3], b"root hash".as_slice()));
+    same("texts", found, ([Ok(()); 3], b"root hash".as_slice()))
 }
 
 #[test]
-fn a_text_is_put_as_far_as_there_is_room(rt: HostRuntime) {
+fn a_text_is_put_as_far_as_there_is_room(rt: HostRuntime) -> Result<(), Fail> {
     for &(room, result) in &[(8, Ok(())), (7, Err(PutFault(7))), (0, Err(PutFault(0)))] {
         let mut limited = LimitedWriter::new(Vec::new(rt.alloc()), room, 3);
         let found = (
             put_all(&mut limited, b"8 bytes."),
             Some(limited.bytes.as_slice()),
         );
-        assert_eq!(rt; found, (result, b"8 bytes.".get(..room)));
+        same(room, found, (result, b"8 bytes.".get(..room)))?;
     }
+    Ok(())
 }
 
 /// A slice takes nothing once it is full.
 #[test]
-fn a_slice_is_filled(rt: HostRuntime) {
+fn a_slice_is_filled() -> Result<(), Fail> {
     let mut place = [0; 5];
     let result = put_all(&mut place.as_mut_slice(), b"8 bytes.");
-    assert_eq!(rt; (result, place), (Err(PutFault(5)), *b"8 byt"));
+    same("a slice", (result, place), (Err(PutFault(5)), *b"8 byt"))
 }

@@ -1,5 +1,6 @@
 //! Words of the system, many and long, with ample memory.
 use command_line::{WordsFault, given_words, texts_of};
+use fixtures::same;
 use memory_runtime::{Disk, MemoryRuntime};
 use std::alloc::{AllocError, Global};
 use std::test::Fail;
@@ -15,8 +16,7 @@ fn as_many_words_are_given_as_there_are(rt: HostRuntime) -> Result<(), Fail> {
     let given = given_words(&MemoryRuntime::new(alloc, &disk, line.as_str()))?;
     let texts = texts_of(alloc, given.as_slice())?;
     let joined = texts.as_slice().join(alloc, " ")?;
-    assert_eq!(rt; (given.len(), joined), (2001, line));
-    Ok(())
+    same("2001 words", (given.len(), joined), (2001, line))
 }
 
 #[test]
@@ -28,8 +28,7 @@ fn a_word_of_100000_bytes_is_given_whole(rt: HostRuntime) -> Result<(), Fail> {
     let given = given_words(&MemoryRuntime::new(alloc, &disk, line.as_str()))?;
     let texts = texts_of(alloc, given.as_slice())?;
     let expected = ["program", long.as_str(), "", "after"];
-    assert_eq!(rt; texts.as_slice(), expected.as_slice());
-    Ok(())
+    same("a long word", texts.as_slice(), expected.as_slice())
 }
 
 /// Some numbered words.
@@ -90,8 +89,7 @@ fn as_many_words_are_given_as_linux_gives(rt: HostRuntime) -> Result<(), Fail> {
     let alloc = rt.alloc();
     let words = numbered(alloc, MORE_THAN_GIVEN)?;
     let found = (words.len(), first_lost(alloc, words.as_slice())?);
-    assert_eq!(rt; found, (MORE_THAN_GIVEN, None));
-    Ok(())
+    same("many words", found, (MORE_THAN_GIVEN, None))
 }
 
 /// Among them words that fill 256, 512, 1024, 2048 and 4096 bytes.
@@ -101,6 +99,5 @@ fn words_of_each_length_are_given_whole(rt: HostRuntime) -> Result<(), Fail> {
     let words = of_each_length(alloc, 4_100)?;
     let longest = words.last().map(String::len);
     let found = (longest, first_lost(alloc, words.as_slice())?);
-    assert_eq!(rt; found, (Some(4_099), None));
-    Ok(())
+    same("words of each length", found, (Some(4_099), None))
 }

@@ -2,7 +2,7 @@
 //! and lengths near the borders of blocks and of the groups of 512 bytes that are hashed at a time, and messages of
 //! zeros, compared with the crates `sha1` and `sha2`.
 use crate::examples::{EXAMPLES, Example, FUNCTIONS, SALTS};
-use fixtures::{Shape, data, flip_bit};
+use fixtures::{Shape, data, flip_bit, same};
 use sha_lanes::{sha1_alone, sha224_alone, sha256_alone, sha384_alone, sha512_alone};
 use std::alloc::{AllocError, Global};
 use std::test::Fail;
@@ -61,8 +61,7 @@ fn wrong_places(alloc: Global, example: &Example) -> Result<Option<(usize, usize
 #[test]
 fn the_standards_examples_cut_at_each_pair_of_places(rt: HostRuntime) -> Result<(), Fail> {
     for example in &EXAMPLES {
-        let wrong = wrong_places(rt.alloc(), example)?;
-        assert_eq!(rt; wrong, None, "at {}", example.digits);
+        same(example.digits, wrong_places(rt.alloc(), example)?, None)?;
     }
     Ok(())
 }
@@ -97,7 +96,7 @@ fn a_million_letters_have_their_digest(rt: HostRuntime) -> Result<(), Fail> {
     for &(function, digits) in &MILLION {
         for places in &PLACES {
             let right = has_digits(rt.alloc(), function, letters.as_slice(), *places, digits)?;
-            assert!(rt; right, "by {function:?}, cut at {places:?}");
+            same(format_args!("{function:?}, {places:?}"), right, true)?;
         }
     }
     Ok(())
@@ -164,8 +163,7 @@ fn wrong_length(alloc: Global) -> Result<Option<(usize, usize)>, Fail> {
 
 #[test]
 fn lengths_round_the_borders_of_blocks_and_groups(rt: HostRuntime) -> Result<(), Fail> {
-    assert_eq!(rt; wrong_length(rt.alloc())?, None);
-    Ok(())
+    same("a border", wrong_length(rt.alloc())?, None)
 }
 
 /// The first pair of places at which some bytes are cut and have another digest by a function than by `sha1` or `sha2`.
@@ -262,7 +260,7 @@ fn wrong_zeros(alloc: Global, len: usize) -> Result<Option<(usize, usize, Wrong)
 #[test]
 fn zeros_have_their_digest(rt: HostRuntime) -> Result<(), Fail> {
     for &len in &LENGTHS {
-        assert_eq!(rt; wrong_zeros(rt.alloc(), len)?, None, "at {len}");
+        same(len, wrong_zeros(rt.alloc(), len)?, None)?;
     }
     Ok(())
 }
@@ -285,6 +283,5 @@ fn wrong_bit(alloc: Global) -> Result<Option<(usize, Wrong)>, AllocError> {
 
 #[test]
 fn each_byte_that_is_not_zero_counts(rt: HostRuntime) -> Result<(), Fail> {
-    assert_eq!(rt; wrong_bit(rt.alloc())?, None);
-    Ok(())
+    same("a bit", wrong_bit(rt.alloc())?, None)
 }

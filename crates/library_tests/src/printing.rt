@@ -1,6 +1,6 @@
 //! Texts and messages of any length, for writers that are slow or soon full.
 use command_line::{PrintFault, write_message, write_pieces, write_text, write_whole};
-use fixtures::LimitedWriter;
+use fixtures::{LimitedWriter, same};
 use std::test::Fail;
 
 #[test]
@@ -15,8 +15,7 @@ fn long_texts_are_told_whole(rt: HostRuntime) -> Result<(), Fail> {
         write_message(copy, &mut msgs),
     ];
     let found = (results, msgs.bytes.as_slice());
-    assert_eq!(rt; found, ([true; 2], twice.as_bytes()));
-    Ok(())
+    same("long texts", found, ([true; 2], twice.as_bytes()))
 }
 
 #[test]
@@ -31,7 +30,7 @@ fn pieces_are_told_in_order(rt: HostRuntime) -> Result<(), Fail> {
             write_pieces(&pieces, &mut msgs),
             Some(msgs.bytes.as_slice()),
         );
-        assert_eq!(rt; found, (whole, text.as_bytes().get(..room)), "at {room}");
+        same(room, found, (whole, text.as_bytes().get(..room)))?;
     }
     Ok(())
 }
@@ -48,7 +47,7 @@ fn long_texts_are_printed_whole(rt: HostRuntime) -> Result<(), Fail> {
         let mut out = LimitedWriter::new(Vec::new(alloc), room, 1000);
         let copy = String::from_str(alloc, text.as_str());
         let found = (write_whole(copy, &mut out), Some(out.bytes.as_slice()));
-        assert_eq!(rt; found, (result, text.as_bytes().get(..room)), "at {room}");
+        same(room, found, (result, text.as_bytes().get(..room)))?;
     }
     Ok(())
 }

@@ -1,5 +1,6 @@
 //! What the progress line counts, and what it says of the time, with a clock and without.
 use command_line::{ProgressReader, ProgressRuntime, ShownProgress};
+use fixtures::same;
 use memory_runtime::{Disk, MemoryRuntime};
 use std::alloc::Global;
 use std::fmt::Display;
@@ -52,8 +53,8 @@ fn bytes_that_were_read_are_counted(rt: HostRuntime) -> Result<(), Fail> {
     let mut runtime = MemoryRuntime::new(alloc, &disk, "");
     runtime.step = Some(3 << 20);
     read(alloc, &runtime, 9)?;
-    assert_eq!(rt; disk.standard_error()?.as_slice(), LINES.as_bytes());
-    Ok(())
+    let shown = disk.standard_error()?;
+    same("the line", shown.as_slice(), LINES.as_bytes())
 }
 
 /// A reader that never ends, and leaves the buffer as it is.
@@ -86,8 +87,7 @@ fn more_than_four_gib_are_shown_in_mib(rt: HostRuntime) -> Result<(), Fail> {
     }
     let shown = disk.standard_error()?;
     let found = (length, shown.as_slice());
-    assert_eq!(rt; found, (5000 << 20, LARGE_LINES.as_bytes()));
-    Ok(())
+    same("5000 MiB", found, (5000 << 20, LARGE_LINES.as_bytes()))
 }
 
 /// A runtime over a disk, whose clock goes on by so many milliseconds at each reading, and can be read this many times
@@ -178,11 +178,9 @@ fn rate_and_time_left_go_by_the_clock(rt: HostRuntime) -> Result<(), Fail> {
             readings,
         };
         read(alloc, &runtime, 9)?;
-        assert_eq!(rt;
-            disk.standard_error()?.as_slice(),
-            lines.as_bytes(),
-            "at {millis} and {readings}"
-        );
+        let shown = disk.standard_error()?;
+        let at = format_args!("{millis} and {readings}");
+        same(at, shown.as_slice(), lines.as_bytes())?;
     }
     Ok(())
 }

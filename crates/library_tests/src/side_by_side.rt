@@ -1,7 +1,7 @@
 //! One to eight messages hashed side by side: the examples of FIPS 180-4 in each lane, and lengths near the borders of
 //! blocks, with bytes before and after the parts, compared with the crates `sha1` and `sha2`.
 use crate::examples::{EXAMPLES, Example, FUNCTIONS, SALTS};
-use fixtures::{Shape, data, lay};
+use fixtures::{Shape, data, lay, same};
 use sha_lanes::{sha1, sha224, sha256, sha384, sha512};
 use std::alloc::{AllocError, Global};
 use std::test::Fail;
@@ -78,8 +78,7 @@ fn wrong_lane(alloc: Global, example: &Example) -> Result<Option<(usize, usize)>
 #[test]
 fn the_standards_examples_in_each_lane(rt: HostRuntime) -> Result<(), Fail> {
     for example in &EXAMPLES {
-        let wrong = wrong_lane(rt.alloc(), example)?;
-        assert_eq!(rt; wrong, None, "at {}", example.digits);
+        same(example.digits, wrong_lane(rt.alloc(), example)?, None)?;
     }
     Ok(())
 }
@@ -158,6 +157,5 @@ fn wrong_length(alloc: Global) -> Result<Option<(usize, usize, usize)>, Fail> {
 
 #[test]
 fn lengths_round_the_borders_of_blocks(rt: HostRuntime) -> Result<(), Fail> {
-    assert_eq!(rt; wrong_length(rt.alloc())?, None);
-    Ok(())
+    same("a border", wrong_length(rt.alloc())?, None)
 }

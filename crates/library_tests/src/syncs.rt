@@ -1,8 +1,10 @@
 //! What FileDevice makes of the system's answer to a sync.
 use crate::sparse::Sparse;
+use fixtures::same;
 use std::fs::{Metadata, OpenFile};
 use std::io;
 use std::io::ErrorKind;
+use std::test::Fail;
 use verity_io::FileDevice;
 
 /// Only a sync of the whole file gives its answer. Nothing else can be asked.
@@ -40,11 +42,16 @@ const ANSWERS: [(Option<ErrorKind>, bool); 7] = [
 ];
 
 #[test]
-fn a_refused_sync_is_a_failure(rt: HostRuntime) {
+fn a_refused_sync_is_a_failure(rt: HostRuntime) -> Result<(), Fail> {
     for &(error, passed_over) in &ANSWERS {
         let mut file = Sparse::new(0, Vec::new(rt.alloc()), 1, 0);
         file.sync_error = error;
         let device = FileDevice::new(file);
-        assert_eq!(rt; device.sync().is_ok(), passed_over, "at {error:?}");
+        same(
+            format_args!("{error:?}"),
+            device.sync().is_ok(),
+            passed_over,
+        )?;
     }
+    Ok(())
 }
