@@ -1,5 +1,7 @@
-//! What the tests of hashing side by side and alone share: the hash functions, lengths of salts, and published
-//! examples.
+//! What the tests of hashing side by side and alone share: the hash functions, lengths of salts, digests by `sha1` and
+//! `sha2`, and published examples.
+use fixtures::Shape;
+use std::alloc::{AllocError, Global};
 use verity_hash::Algorithm;
 
 pub const FUNCTIONS: [Algorithm; 5] = [
@@ -12,6 +14,21 @@ pub const FUNCTIONS: [Algorithm; 5] = [
 
 /// Lengths of what is hashed before and after a block.
 pub const SALTS: [usize; 6] = [0, 1, 32, 64, 255, 256];
+
+/// A message in three pieces.
+pub type Message<'a> = (&'a [u8], &'a [u8], &'a [u8]);
+
+/// The digest of a message by `sha1` or `sha2`.
+pub fn expected_digest(
+    alloc: Global,
+    function: Algorithm,
+    (first, second, third): Message<'_>,
+) -> Result<Vec<u8>, AllocError> {
+    let mut shape = Shape::new(alloc, function, (0, 0), (0, 0));
+    shape.before.extend_from_slice(first)?;
+    shape.after.extend_from_slice(third)?;
+    shape.digest(alloc, second)
+}
 
 /// A function, a message and its digest: the examples of one and of two blocks on NIST's page on FIPS 180-4, and the
 /// empty message.

@@ -35,24 +35,21 @@ fn is_kept(alloc: Global, at: u64, block: &[u8]) -> Result<bool, Fail> {
     Ok(written == Ok(()) && read == Ok(block.len()) && buf.as_slice() == block)
 }
 
-/// The first offset from which a block isn't read as it was written there. The last one tried is that at which it ends
-/// at the largest offset.
-fn first_wrong(alloc: Global, block: &[u8]) -> Result<Option<u64>, Fail> {
+/// Tries a block at each offset. The last one is that at which it ends at the largest offset.
+fn each_offset(alloc: Global, block: &[u8]) -> Result<(), Fail> {
     let last = MOST_BYTES.saturating_sub(block.len() as u64);
     for &at in OFFSETS.iter().chain(&[last]) {
-        if !is_kept(alloc, at, block)? {
-            return Ok(Some(at));
-        }
+        let is_kept = is_kept(alloc, at, block)?;
+        same(format_args!("{at}, {}", block.len()), is_kept, true)?;
     }
-    Ok(None)
+    Ok(())
 }
 
 #[test]
 fn blocks_of_each_length_stand_at_each_offset(rt: HostRuntime) -> Result<(), Fail> {
     let alloc = rt.alloc();
     for &length in &LENGTHS {
-        let wrong = first_wrong(alloc, data(alloc, length)?.as_slice())?;
-        same(length, wrong, None)?;
+        each_offset(alloc, data(alloc, length)?.as_slice())?;
     }
     Ok(())
 }
@@ -84,26 +81,32 @@ fn differs(
     None
 }
 
-#[test]
-fn long_blocks_stand_at_far_offsets(rt: HostRuntime) -> Result<(), Fail> {
-    let alloc = rt.alloc();
-    let block = data(alloc, 70_000)?;
-    assert!(rt; block.len() == 70_000);
-    let mut buf = vec![in alloc; 7u8; 70_000]?;
+/// Writes a block of 70000 bytes at a far offset of a file that takes so many bytes in each call, and reads it.
+fn far_offset(alloc: Global, block: &[u8], most: usize) -> Result<(), Fail> {
+    if block.len() != 70_000 {
+        return Err("70000 bytes".into());
+    }
+    let mut device = FileDevice::new(Sparse::new(FAR, Vec::new(alloc), most, 0));
+    let results = [
+        device.write_at(FAR + 100, block),
+        device.write_at(100, b"a"),
+    ];
     let reads = [
-        (FAR + 100, Some(block.as_slice())),
+        (FAR + 100, Some(block)),
         (FAR + 65_099, Some(&block[64_999..])),
         (FAR + 70_100, Some(b"")),
         (100, None),
     ];
+    let mut buf = vec![in alloc; 7u8; 70_000]?;
+    let found = (results, differs(&mut device, &mut buf, &reads));
+    same(most, found, ([Ok(()), Err(Failed)], None))
+}
+
+#[test]
+fn long_blocks_stand_at_far_offsets(rt: HostRuntime) -> Result<(), Fail> {
+    let block = data(rt.alloc(), 70_000)?;
     for &most in &[usize::MAX, 1_000] {
-        let mut device = FileDevice::new(Sparse::new(FAR, Vec::new(alloc), most, 0));
-        let results = [
-            device.write_at(FAR + 100, block.as_slice()),
-            device.write_at(100, b"a"),
-        ];
-        let found = (results, differs(&mut device, &mut buf, &reads));
-        same(most, found, ([Ok(()), Err(Failed)], None))?;
+        far_offset(rt.alloc(), block.as_slice(), most)?;
     }
     Ok(())
 }

@@ -1,10 +1,11 @@
 //! Superblocks, descriptors, formatted digests and whole writes.
 use fixtures::{
-    ALGORITHM_AT, DATA_BLOCK_SIZE_AT, DATA_BLOCKS_AT, DESCRIPTOR_SIZE, Field, HASH_BLOCK_SIZE_AT,
-    HASH_TYPE_AT, LimitedWriter, SALT_AT, SALT_SIZE_AT, SIGNATURE_AT, SUPERBLOCK_SIZE, Shape, UUID,
-    UUID_AT, VERSION_AT, block, descriptor, lay, one_block, same,
+    ALGORITHM_AT, DATA_BLOCK_SIZE_AT, DATA_BLOCKS_AT, Field, HASH_BLOCK_SIZE_AT, HASH_TYPE_AT,
+    LimitedWriter, SALT_AT, SALT_SIZE_AT, SIGNATURE_AT, SUPERBLOCK_SIZE, Shape, UUID, UUID_AT,
+    VERSION_AT, block, descriptor, lay, one_block, same,
 };
 use sha2::{Digest as Hasher, Sha512};
+use std::alloc::{AllocError, Global};
 use std::test::Fail;
 use verity_format::{
     Descriptor, PutFault, SuperFault, Superblock, file_digest, formatted_digest, put_all,
@@ -76,14 +77,22 @@ const DESCRIPTORS: [(Algorithm, &[u8], u32, u64, [u8; 4]); 2] = [
     (Algorithm::Sha512, b"\xab\xcd", 128, 384, [1, 2, 7, 2]),
 ];
 
-/// The bytes of a descriptor and the file digest.
+/// Compares the bytes of a descriptor, and the file digest, with those expected.
 fn described(
     tree: &TreeSettings,
     size: u64,
     root: &[u8],
-) -> Option<([u8; DESCRIPTOR_SIZE], Digest)> {
-    let descriptor = Descriptor::of(tree, size, &Digest::from_bytes(root)?)?;
-    Some((write_descriptor(&descriptor), file_digest(&descriptor)))
+    expected: (&[u8], &[u8]),
+) -> Result<(), Fail> {
+    let root = Digest::from_bytes(root).ok_or("a digest")?;
+    let descriptor = Descriptor::of(tree, size, &root).ok_or("a descriptor")?;
+    let (written, digest) = (write_descriptor(&descriptor), file_digest(&descriptor));
+    same(size, (written.as_slice(), digest.as_bytes()), expected)
+}
+
+/// The digest of some bytes by `sha2`.
+fn hashed(alloc: Global, algorithm: Algorithm, bytes: &[u8]) -> Result<Vec<u8>, AllocError> {
+    Shape::new(alloc, algorithm, (0, 0), (0, 0)).digest(alloc, bytes)
 }
 
 #[test]
@@ -91,13 +100,11 @@ fn descriptors_are_written_and_hashed(rt: HostRuntime) -> Result<(), Fail> {
     let alloc = rt.alloc();
     for &(algorithm, salt, block, size, head) in &DESCRIPTORS {
         let tree = TreeSettings::fsverity(algorithm, salt, block)?;
-        let shape = Shape::new(alloc, algorithm, (0, 0), (0, 0));
-        let root = shape.digest(alloc, b"root")?;
+        let root = hashed(alloc, algorithm, b"root")?;
         let expected = descriptor(alloc, &head, size, root.as_slice(), salt)?;
-        let hashed = shape.digest(alloc, expected.as_slice())?;
-        let (written, digest) = described(&tree, size, root.as_slice()).ok_or("a descriptor")?;
-        let found = (written.as_slice(), digest.as_bytes());
-        same(size, found, (expected.as_slice(), hashed.as_slice()))?;
+        let digest = hashed(alloc, algorithm, expected.as_slice())?;
+        let expected = (expected.as_slice(), digest.as_slice());
+        described(&tree, size, root.as_slice(), expected)?;
     }
     Ok(())
 }
@@ -127,10 +134,8 @@ fn texts_are_put_one_after_another(rt: HostRuntime) -> Result<(), Fail> {
 fn a_text_is_put_as_far_as_there_is_room(rt: HostRuntime) -> Result<(), Fail> {
     for &(room, result) in &[(8, Ok(())), (7, Err(PutFault(7))), (0, Err(PutFault(0)))] {
         let mut limited = LimitedWriter::new(Vec::new(rt.alloc()), room, 3);
-        let found = (
-            put_all(&mut limited, b"8 bytes."),
-            Some(limited.bytes.as_slice()),
-        );
+        let found = put_all(&mut limited, b"8 bytes.");
+        let found = (found, Some(limited.bytes.as_slice()));
         same(room, found, (result, b"8 bytes.".get(..room)))?;
     }
     Ok(())

@@ -5,6 +5,14 @@ use memory_runtime::{Disk, MemoryRuntime};
 use std::alloc::{AllocError, Global};
 use std::test::Fail;
 
+/// The number of the words that are given of a command line, and the words with a space between two.
+fn given_line(alloc: Global, line: &str) -> Result<(usize, String), Fail> {
+    let disk = Disk::new(alloc);
+    let given = given_words(&MemoryRuntime::new(alloc, &disk, line))?;
+    let texts = texts_of(alloc, given.as_slice())?;
+    Ok((given.len(), texts.as_slice().join(alloc, " ")?))
+}
+
 #[test]
 fn as_many_words_are_given_as_there_are(rt: HostRuntime) -> Result<(), Fail> {
     let alloc = rt.alloc();
@@ -12,11 +20,7 @@ fn as_many_words_are_given_as_there_are(rt: HostRuntime) -> Result<(), Fail> {
     for number in 1..2001usize {
         write!(line, " w{number}")?;
     }
-    let disk = Disk::new(alloc);
-    let given = given_words(&MemoryRuntime::new(alloc, &disk, line.as_str()))?;
-    let texts = texts_of(alloc, given.as_slice())?;
-    let joined = texts.as_slice().join(alloc, " ")?;
-    same("2001 words", (given.len(), joined), (2001, line))
+    same("the line", given_line(alloc, line.as_str())?, (2001, line))
 }
 
 #[test]
@@ -63,21 +67,14 @@ fn given<'a>(
     given_words(&runtime)
 }
 
-/// The number of the first of these words that isn't given as it is after the program's name, or how many are given if
-/// more words are, or fewer.
-fn first_lost(alloc: Global, words: &[String]) -> Result<Option<usize>, Fail> {
+/// Compares the words that are given after the program's name with these.
+fn are_given(alloc: Global, words: &[String]) -> Result<(), Fail> {
     let disk = Disk::new(alloc);
     let given = given(alloc, &disk, words)?;
-    for (number, (word, other)) in words.iter().zip(given.iter().skip(1)).enumerate() {
-        if word != other {
-            return Ok(Some(number));
-        }
+    for (number, word) in words.iter().enumerate() {
+        same(number, given.get(number.saturating_add(1)), Some(word))?;
     }
-    if given.len() == words.len().saturating_add(1) {
-        Ok(None)
-    } else {
-        Ok(Some(given.len()))
-    }
+    same("the end", given.len(), words.len().saturating_add(1))
 }
 
 /// More than Linux gives to a program: words have 6 MiB at most, and one takes 9 bytes or more (execve(2), "Limits on
@@ -88,8 +85,8 @@ const MORE_THAN_GIVEN: usize = 700_000;
 fn as_many_words_are_given_as_linux_gives(rt: HostRuntime) -> Result<(), Fail> {
     let alloc = rt.alloc();
     let words = numbered(alloc, MORE_THAN_GIVEN)?;
-    let found = (words.len(), first_lost(alloc, words.as_slice())?);
-    same("many words", found, (MORE_THAN_GIVEN, None))
+    same("the words", words.len(), MORE_THAN_GIVEN)?;
+    are_given(alloc, words.as_slice())
 }
 
 /// Among them words that fill 256, 512, 1024, 2048 and 4096 bytes.
@@ -98,6 +95,6 @@ fn words_of_each_length_are_given_whole(rt: HostRuntime) -> Result<(), Fail> {
     let alloc = rt.alloc();
     let words = of_each_length(alloc, 4_100)?;
     let longest = words.last().map(String::len);
-    let found = (longest, first_lost(alloc, words.as_slice())?);
-    same("words of each length", found, (Some(4_099), None))
+    same("the longest", longest, Some(4_099))?;
+    are_given(alloc, words.as_slice())
 }

@@ -1,15 +1,12 @@
 //! One message hashed alone, in three pieces: the examples of FIPS 180-4 cut at each pair of places, and a long one;
 //! and lengths near the borders of blocks and of the groups of 512 bytes that are hashed at a time, and messages of
 //! zeros, compared with the crates `sha1` and `sha2`.
-use crate::examples::{EXAMPLES, Example, FUNCTIONS, SALTS};
-use fixtures::{Shape, data, flip_bit, same};
+use crate::examples::{EXAMPLES, Example, FUNCTIONS, Message, SALTS, expected_digest};
+use fixtures::{data, flip_bit, same};
 use sha_lanes::{sha1_alone, sha224_alone, sha256_alone, sha384_alone, sha512_alone};
 use std::alloc::{AllocError, Global};
 use std::test::Fail;
 use verity_hash::Algorithm;
-
-/// A message in three pieces.
-type Message<'a> = (&'a [u8], &'a [u8], &'a [u8]);
 
 /// The digest of a message.
 fn hashed_alone(
@@ -33,35 +30,38 @@ fn cut(bytes: &[u8], from: usize, to: usize) -> Message<'_> {
     (first, second, third)
 }
 
-/// Whether some bytes, cut at two places, have a digest.
+/// Compares the digest of some bytes, cut at two places, with what is expected.
 fn has_digits(
     alloc: Global,
     function: Algorithm,
     bytes: &[u8],
     places: (usize, usize),
     digits: &str,
-) -> Result<bool, Fail> {
+) -> Result<(), Fail> {
     let digest = hashed_alone(alloc, function, cut(bytes, places.0, places.1))?;
-    Ok(hex::encode(alloc, digest)?.as_str() == digits)
+    let found = hex::encode(alloc, digest)?;
+    same(
+        format_args!("{function:?}, {places:?}"),
+        found.as_str(),
+        digits,
+    )
 }
 
-/// The first pair of places at which an example's message is cut and has another digest.
-fn wrong_places(alloc: Global, example: &Example) -> Result<Option<(usize, usize)>, Fail> {
+/// Cuts an example's message at each pair of places.
+fn has_its_digits(alloc: Global, example: &Example) -> Result<(), Fail> {
     let (message, digits) = (example.message, example.digits);
     for to in 0..=message.len() {
         for from in 0..=to {
-            if !has_digits(alloc, example.function, message, (from, to), digits)? {
-                return Ok(Some((from, to)));
-            }
+            has_digits(alloc, example.function, message, (from, to), digits)?;
         }
     }
-    Ok(None)
+    Ok(())
 }
 
 #[test]
 fn the_standards_examples_cut_at_each_pair_of_places(rt: HostRuntime) -> Result<(), Fail> {
     for example in &EXAMPLES {
-        same(example.digits, wrong_places(rt.alloc(), example)?, None)?;
+        has_its_digits(rt.alloc(), example)?;
     }
     Ok(())
 }
@@ -95,23 +95,10 @@ fn a_million_letters_have_their_digest(rt: HostRuntime) -> Result<(), Fail> {
     let letters = vec![in rt.alloc(); b'a'; 1_000_000]?;
     for &(function, digits) in &MILLION {
         for places in &PLACES {
-            let right = has_digits(rt.alloc(), function, letters.as_slice(), *places, digits)?;
-            same(format_args!("{function:?}, {places:?}"), right, true)?;
+            has_digits(rt.alloc(), function, letters.as_slice(), *places, digits)?;
         }
     }
     Ok(())
-}
-
-/// The digest of a message by `sha1` or `sha2`.
-fn expected_digest(
-    alloc: Global,
-    function: Algorithm,
-    (first, second, third): Message<'_>,
-) -> Result<Vec<u8>, AllocError> {
-    let mut shape = Shape::new(alloc, function, (0, 0), (0, 0));
-    shape.before.extend_from_slice(first)?;
-    shape.after.extend_from_slice(third)?;
-    shape.digest(alloc, second)
 }
 
 /// Lengths near the borders of blocks of 64 and of 128 bytes and of their padding, and of groups of 512 bytes.
@@ -120,9 +107,9 @@ const BORDERS: [usize; 26] = [
     513, 1015, 1016, 1023, 1024, 1025,
 ];
 
-/// Whether the digests of some bytes by each function are those of `sha1` or `sha2`, with the salt before the bytes,
+/// Compares the digests of some bytes by each function with those of `sha1` or `sha2`, with the salt before the bytes,
 /// after them, and both. The bytes are the first piece, the second or the third.
-fn are_right(alloc: Global, salt: &[u8], bytes: &[u8]) -> Result<bool, AllocError> {
+fn are_right(alloc: Global, salt: &[u8], bytes: &[u8]) -> Result<(), Fail> {
     let none = &salt[..0];
     let messages = [
         (salt, bytes, none),
@@ -134,36 +121,34 @@ fn are_right(alloc: Global, salt: &[u8], bytes: &[u8]) -> Result<bool, AllocErro
     for function in &FUNCTIONS {
         for message in &messages {
             let expected = expected_digest(alloc, *function, *message)?;
-            if hashed_alone(alloc, *function, *message)? != expected {
-                return Ok(false);
-            }
+            let found = hashed_alone(alloc, *function, *message)?;
+            same(format_args!("{function:?}, {message:?}"), found, expected)?;
         }
     }
-    Ok(true)
+    Ok(())
 }
 
-/// Each salt with each border, as the length of the bytes and as that of whole messages, with one salt or two, after
-/// 512 bytes. The result is the first lengths of a salt and of bytes with another digest.
-fn wrong_length(alloc: Global) -> Result<Option<(usize, usize)>, Fail> {
-    let (salts, all) = (data(alloc, 269)?, data(alloc, 1550)?);
-    for &salt_len in &SALTS {
-        let salt = salts.get(13..salt_len.saturating_add(13)).ok_or("a salt")?;
-        for &border in &BORDERS {
-            let one = border.saturating_add(512).saturating_sub(salt_len);
-            for &len in &[border, one, one.saturating_sub(salt_len)] {
-                let bytes = all.get(5..len.saturating_add(5)).ok_or("bytes")?;
-                if !are_right(alloc, salt, bytes)? {
-                    return Ok(Some((salt_len, len)));
-                }
-            }
+/// Takes a salt with each border, as the length of the bytes and as that of whole messages, with one salt or two, after
+/// 512 bytes.
+fn each_border(alloc: Global, salt: &[u8], all: &[u8]) -> Result<(), Fail> {
+    for &border in &BORDERS {
+        let one = border.saturating_add(512).saturating_sub(salt.len());
+        for &len in &[border, one, one.saturating_sub(salt.len())] {
+            let bytes = all.get(5..len.saturating_add(5)).ok_or("bytes")?;
+            are_right(alloc, salt, bytes)?;
         }
     }
-    Ok(None)
+    Ok(())
 }
 
 #[test]
 fn lengths_round_the_borders_of_blocks_and_groups(rt: HostRuntime) -> Result<(), Fail> {
-    same("a border", wrong_length(rt.alloc())?, None)
+    let all = data(rt.alloc(), 1550)?;
+    for &salt_len in &SALTS {
+        let salt = all.get(13..salt_len.saturating_add(13)).ok_or("a salt")?;
+        each_border(rt.alloc(), salt, all.as_slice())?;
+    }
+    Ok(())
 }
 
 /// The first pair of places at which some bytes are cut and have another digest by a function than by `sha1` or `sha2`.

@@ -71,20 +71,25 @@ impl Read for Endless {
 const LARGE_LINES: &str =
     "\r24%, 1200 of 5000 MiB, 2400 MiB/s\x1b[K\r48%, 2400 of 5000 MiB, 2400 MiB/s\x1b[K\r72%, 3600 of 5000 MiB, 2400 MiB/s\x1b[K\r96%, 4800 of 5000 MiB, 2400 MiB/s\x1b[K";
 
-/// Reads 5000 MiB, which are stored nowhere, 8 MiB in each call.
-#[test]
-fn more_than_four_gib_are_shown_in_mib(rt: HostRuntime) -> Result<(), Fail> {
-    let alloc = rt.alloc();
-    let disk = Disk::new(alloc);
-    let mut runtime = MemoryRuntime::new(alloc, &disk, "");
-    runtime.step = Some(1200 << 20);
-    let progress = ShownProgress::new(&runtime);
+/// How many bytes are read of 5000 MiB, which are stored nowhere, 8 MiB in each call.
+fn read_large(alloc: Global, runtime: &MemoryRuntime<'_>) -> io::Result<usize> {
+    let progress = ShownProgress::new(runtime);
     let mut reader = ProgressReader::new(Endless, 5000 << 20, &progress);
     let mut buffer = vec![in alloc; 0u8; 8 << 20]?;
     let mut length = 0_usize;
     for _ in 0..625 {
         length = length.saturating_add(reader.read(buffer.as_mut_slice())?);
     }
+    Ok(length)
+}
+
+#[test]
+fn more_than_four_gib_are_shown_in_mib(rt: HostRuntime) -> Result<(), Fail> {
+    let alloc = rt.alloc();
+    let disk = Disk::new(alloc);
+    let mut runtime = MemoryRuntime::new(alloc, &disk, "");
+    runtime.step = Some(1200 << 20);
+    let length = read_large(alloc, &runtime)?;
     let shown = disk.standard_error()?;
     let found = (length, shown.as_slice());
     same("5000 MiB", found, (5000 << 20, LARGE_LINES.as_bytes()))
@@ -166,19 +171,23 @@ const CLOCKS: [(u64, u64, &str); 6] = [
     ),
 ];
 
+/// What a terminal gets during nine reads by such a clock.
+fn shown_by(alloc: Global, millis: u64, readings: u64) -> io::Result<Vec<u8>> {
+    let disk = Disk::new(alloc);
+    let runtime = OddClock {
+        runtime: MemoryRuntime::new(alloc, &disk, ""),
+        disk: &disk,
+        millis,
+        readings,
+    };
+    read(alloc, &runtime, 9)?;
+    disk.standard_error()
+}
+
 #[test]
 fn rate_and_time_left_go_by_the_clock(rt: HostRuntime) -> Result<(), Fail> {
-    let alloc = rt.alloc();
     for &(millis, readings, lines) in &CLOCKS {
-        let disk = Disk::new(alloc);
-        let runtime = OddClock {
-            runtime: MemoryRuntime::new(alloc, &disk, ""),
-            disk: &disk,
-            millis,
-            readings,
-        };
-        read(alloc, &runtime, 9)?;
-        let shown = disk.standard_error()?;
+        let shown = shown_by(rt.alloc(), millis, readings)?;
         let at = format_args!("{millis} and {readings}");
         same(at, shown.as_slice(), lines.as_bytes())?;
     }

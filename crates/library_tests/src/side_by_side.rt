@@ -1,7 +1,7 @@
 //! One to eight messages hashed side by side: the examples of FIPS 180-4 in each lane, and lengths near the borders of
 //! blocks, with bytes before and after the parts, compared with the crates `sha1` and `sha2`.
-use crate::examples::{EXAMPLES, Example, FUNCTIONS, SALTS};
-use fixtures::{Shape, data, lay, same};
+use crate::examples::{EXAMPLES, Example, FUNCTIONS, SALTS, expected_digest};
+use fixtures::{data, lay, same};
 use sha_lanes::{sha1, sha224, sha256, sha384, sha512};
 use std::alloc::{AllocError, Global};
 use std::test::Fail;
@@ -45,40 +45,42 @@ fn side_by_side(
     Ok(all?)
 }
 
-/// The digest of the example's message, as part `j` of `count`, with other bytes in the rest.
-fn digits_of_part(
+/// The digests of `count` parts: the example's message is part `j`, and other bytes are the rest.
+fn hashed_as_part(
     alloc: Global,
     example: &Example,
     j: usize,
     count: usize,
-) -> Result<String, Fail> {
+) -> Result<Vec<u8>, Fail> {
     let len = example.message.len();
     let mut parts = data(alloc, len.saturating_mul(count))?;
     lay(&mut parts, &[(len.saturating_mul(j), example.message)]);
     let parts = parts.as_slice();
-    let all = side_by_side(alloc, example.function, (b"", b""), parts, len, count)?;
+    side_by_side(alloc, example.function, (b"", b""), parts, len, count)
+}
+
+/// Compares the digest of the example's message, as part `j` of `count`.
+fn has_digits(alloc: Global, example: &Example, j: usize, count: usize) -> Result<(), Fail> {
+    let all = hashed_as_part(alloc, example, j, count)?;
     let size = example.digits.len() / 2;
     let from = size.saturating_mul(j);
     let digest = all.get(from..from.saturating_add(size)).unwrap_or(&[]);
-    Ok(hex::encode(alloc, digest)?)
-}
-
-/// The first lane, of how many, in which an example has another digest.
-fn wrong_lane(alloc: Global, example: &Example) -> Result<Option<(usize, usize)>, Fail> {
-    for count in 1..=8usize {
-        for j in 0..count {
-            if digits_of_part(alloc, example, j, count)?.as_str() != example.digits {
-                return Ok(Some((j, count)));
-            }
-        }
-    }
-    Ok(None)
+    let found = hex::encode(alloc, digest)?;
+    same(
+        format_args!("{j} of {count}"),
+        found.as_str(),
+        example.digits,
+    )
 }
 
 #[test]
 fn the_standards_examples_in_each_lane(rt: HostRuntime) -> Result<(), Fail> {
     for example in &EXAMPLES {
-        same(example.digits, wrong_lane(rt.alloc(), example)?, None)?;
+        for count in 1..=8usize {
+            for j in 0..count {
+                has_digits(rt.alloc(), example, j, count)?;
+            }
+        }
     }
     Ok(())
 }
@@ -86,10 +88,11 @@ fn the_standards_examples_in_each_lane(rt: HostRuntime) -> Result<(), Fail> {
 /// Lengths of parts, and of whole messages, near the borders of blocks of 64 and of 128 bytes and of their padding.
 const BORDERS: [usize; 13] = [0, 1, 54, 55, 56, 63, 64, 111, 112, 119, 120, 127, 128];
 
-/// The digests by `sha1` or `sha2` of `count` parts of one length, one after another.
+/// The digests by `sha1` or `sha2` of `count` parts of one length, with these bytes around each, one after another.
 fn one_by_one(
     alloc: Global,
-    shape: &Shape,
+    function: Algorithm,
+    (before, after): Around<'_>,
     parts: &[u8],
     len: usize,
     count: usize,
@@ -98,64 +101,59 @@ fn one_by_one(
     for j in 0..count {
         let from = len.saturating_mul(j);
         let part = parts.get(from..from.saturating_add(len)).unwrap_or(&[]);
-        all.extend_from_slice(shape.digest(alloc, part)?.as_slice())?;
+        let digest = expected_digest(alloc, function, (before, part, after))?;
+        all.extend_from_slice(digest.as_slice())?;
     }
     Ok(all)
 }
 
-/// Whether the digests of this many parts by a function, with bytes around each, are those of `sha1` or `sha2`.
+/// Compares the digests of this many parts by a function, with bytes around each, with those of `sha1` or `sha2`.
 fn are_the_same(
     alloc: Global,
     function: Algorithm,
     around: Around<'_>,
     len: usize,
     count: usize,
-) -> Result<bool, Fail> {
-    let mut shape = Shape::new(alloc, function, (0, 0), (0, 0));
-    shape.before.extend_from_slice(around.0)?;
-    shape.after.extend_from_slice(around.1)?;
+) -> Result<(), Fail> {
     let parts = data(alloc, len.saturating_mul(count))?;
-    let expected = one_by_one(alloc, &shape, parts.as_slice(), len, count)?;
+    let expected = one_by_one(alloc, function, around, parts.as_slice(), len, count)?;
     let all = side_by_side(alloc, function, around, parts.as_slice(), len, count)?;
-    Ok(all == expected)
+    let at = (function, around.0.len(), around.1.len(), len, count);
+    same(format_args!("{at:?}"), all, expected)
 }
 
-/// Whether the digests of this many parts by each function are those of `sha1` or `sha2`, with the salt before the
+/// Compares the digests of this many parts by each function with those of `sha1` or `sha2`, with the salt before the
 /// parts, after them, and both.
-fn all_are_the_same(alloc: Global, salt: &[u8], len: usize, count: usize) -> Result<bool, Fail> {
+fn all_are_the_same(alloc: Global, salt: &[u8], len: usize, count: usize) -> Result<(), Fail> {
     for function in &FUNCTIONS {
         for around in &[(salt, &salt[..0]), (&salt[..0], salt), (salt, salt)] {
-            if !are_the_same(alloc, *function, *around, len, count)? {
-                return Ok(false);
-            }
+            are_the_same(alloc, *function, *around, len, count)?;
         }
     }
-    Ok(true)
+    Ok(())
 }
 
-/// Each salt with each border, as the length of the parts and as that of whole messages after 256 bytes. The number of
-/// messages is another one with each, from one to eight. The result is the first salt, number and length of messages
-/// with another digest.
-fn wrong_length(alloc: Global) -> Result<Option<(usize, usize, usize)>, Fail> {
-    let salts = data(alloc, 269)?;
-    let mut turn = 0usize;
-    for &salt_len in &SALTS {
-        let salt = salts.get(13..salt_len.saturating_add(13)).ok_or("a salt")?;
-        for &border in &BORDERS {
-            let message = border.saturating_add(256).saturating_sub(salt_len);
-            for &len in &[border, message] {
-                let count = (turn % 8).saturating_add(1);
-                if !all_are_the_same(alloc, salt, len, count)? {
-                    return Ok(Some((salt_len, count, len)));
-                }
-                turn = turn.saturating_add(3);
-            }
+/// Takes a salt with each border, as the length of the parts and as that of whole messages after 256 bytes. The number
+/// of messages is another one with each turn, from one to eight.
+fn each_border(alloc: Global, salt: &[u8], turn: &mut usize) -> Result<(), Fail> {
+    for &border in &BORDERS {
+        let message = border.saturating_add(256).saturating_sub(salt.len());
+        for &len in &[border, message] {
+            let count = (*turn % 8).saturating_add(1);
+            all_are_the_same(alloc, salt, len, count)?;
+            *turn = turn.saturating_add(3);
         }
     }
-    Ok(None)
+    Ok(())
 }
 
 #[test]
 fn lengths_round_the_borders_of_blocks(rt: HostRuntime) -> Result<(), Fail> {
-    same("a border", wrong_length(rt.alloc())?, None)
+    let salts = data(rt.alloc(), 269)?;
+    let mut turn = 0usize;
+    for &salt_len in &SALTS {
+        let salt = salts.get(13..salt_len.saturating_add(13)).ok_or("a salt")?;
+        each_border(rt.alloc(), salt, &mut turn)?;
+    }
+    Ok(())
 }
