@@ -1,5 +1,5 @@
-//! What the tests of hashing side by side and alone share: the hash functions, lengths of salts, digests by `sha1` and
-//! `sha2`, and published examples.
+//! What the tests of hashing share: the hash functions, lengths of salts, digests by `sha1` and `sha2`, and published
+//! examples.
 use fixtures::Shape;
 use std::alloc::{AllocError, Global};
 use verity_hash::Algorithm;

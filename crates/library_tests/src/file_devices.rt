@@ -87,10 +87,8 @@ fn far_offset(alloc: Global, block: &[u8], most: usize) -> Result<(), Fail> {
         return Err("70000 bytes".into());
     }
     let mut device = FileDevice::new(Sparse::new(FAR, Vec::new(alloc), most, 0));
-    let results = [
-        device.write_at(FAR + 100, block),
-        device.write_at(100, b"a"),
-    ];
+    let written = device.write_at(FAR + 100, block);
+    let results = [written, device.write_at(100, b"a")];
     let reads = [
         (FAR + 100, Some(block)),
         (FAR + 65_099, Some(&block[64_999..])),

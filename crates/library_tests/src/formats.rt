@@ -1,11 +1,11 @@
 //! Superblocks, descriptors, formatted digests and whole writes.
+use crate::examples::expected_digest;
 use fixtures::{
     ALGORITHM_AT, DATA_BLOCK_SIZE_AT, DATA_BLOCKS_AT, Field, HASH_BLOCK_SIZE_AT, HASH_TYPE_AT,
-    LimitedWriter, SALT_AT, SALT_SIZE_AT, SIGNATURE_AT, SUPERBLOCK_SIZE, Shape, UUID, UUID_AT,
-    VERSION_AT, block, descriptor, lay, one_block, same,
+    LimitedWriter, SALT_AT, SALT_SIZE_AT, SIGNATURE_AT, SUPERBLOCK_SIZE, UUID, UUID_AT, VERSION_AT,
+    block, descriptor, lay, one_block, same,
 };
 use sha2::{Digest as Hasher, Sha512};
-use std::alloc::{AllocError, Global};
 use std::test::Fail;
 use verity_format::{
     Descriptor, PutFault, SuperFault, Superblock, file_digest, formatted_digest, put_all,
@@ -90,19 +90,14 @@ fn described(
     same(size, (written.as_slice(), digest.as_bytes()), expected)
 }
 
-/// The digest of some bytes by `sha2`.
-fn hashed(alloc: Global, algorithm: Algorithm, bytes: &[u8]) -> Result<Vec<u8>, AllocError> {
-    Shape::new(alloc, algorithm, (0, 0), (0, 0)).digest(alloc, bytes)
-}
-
 #[test]
 fn descriptors_are_written_and_hashed(rt: HostRuntime) -> Result<(), Fail> {
     let alloc = rt.alloc();
     for &(algorithm, salt, block, size, head) in &DESCRIPTORS {
         let tree = TreeSettings::fsverity(algorithm, salt, block)?;
-        let root = hashed(alloc, algorithm, b"root")?;
+        let root = expected_digest(alloc, algorithm, (b"", b"root", b""))?;
         let expected = descriptor(alloc, &head, size, root.as_slice(), salt)?;
-        let digest = hashed(alloc, algorithm, expected.as_slice())?;
+        let digest = expected_digest(alloc, algorithm, (b"", expected.as_slice(), b""))?;
         let expected = (expected.as_slice(), digest.as_slice());
         described(&tree, size, root.as_slice(), expected)?;
     }

@@ -1,7 +1,7 @@
 //! One message hashed alone, in three pieces: the examples of FIPS 180-4 cut at each pair of places, and a long one;
 //! and lengths near the borders of blocks and of the groups of 512 bytes that are hashed at a time, and messages of
 //! zeros, compared with the crates `sha1` and `sha2`.
-use crate::examples::{EXAMPLES, Example, FUNCTIONS, Message, SALTS, expected_digest};
+use crate::examples::{EXAMPLES, FUNCTIONS, Message, SALTS, expected_digest};
 use fixtures::{data, flip_bit, same};
 use sha_lanes::{sha1_alone, sha224_alone, sha256_alone, sha384_alone, sha512_alone};
 use std::alloc::{AllocError, Global};
@@ -47,21 +47,15 @@ fn has_digits(
     )
 }
 
-/// Cuts an example's message at each pair of places.
-fn has_its_digits(alloc: Global, example: &Example) -> Result<(), Fail> {
-    let (message, digits) = (example.message, example.digits);
-    for to in 0..=message.len() {
-        for from in 0..=to {
-            has_digits(alloc, example.function, message, (from, to), digits)?;
-        }
-    }
-    Ok(())
-}
-
 #[test]
 fn the_standards_examples_cut_at_each_pair_of_places(rt: HostRuntime) -> Result<(), Fail> {
     for example in &EXAMPLES {
-        has_its_digits(rt.alloc(), example)?;
+        let (message, digits) = (example.message, example.digits);
+        for to in 0..=message.len() {
+            for from in 0..=to {
+                has_digits(rt.alloc(), example.function, message, (from, to), digits)?;
+            }
+        }
     }
     Ok(())
 }

@@ -1,7 +1,6 @@
 //! Texts and messages of any length, for writers that are slow or soon full.
 use command_line::{PrintFault, write_message, write_pieces, write_text, write_whole};
 use fixtures::{LimitedWriter, same};
-use std::alloc::Global;
 use std::test::Fail;
 
 #[test]
@@ -19,18 +18,6 @@ fn long_texts_are_told_whole(rt: HostRuntime) -> Result<(), Fail> {
     same("long texts", found, ([true; 2], twice.as_bytes()))
 }
 
-/// Compares what is told of some pieces, as far as there is room, with what is expected.
-fn told(
-    alloc: Global,
-    pieces: &[&str],
-    room: usize,
-    expected: (bool, Option<&[u8]>),
-) -> Result<(), Fail> {
-    let mut msgs = LimitedWriter::new(Vec::new(alloc), room, 1000);
-    let whole = write_pieces(pieces, &mut msgs);
-    same(room, (whole, Some(msgs.bytes.as_slice())), expected)
-}
-
 #[test]
 fn pieces_are_told_in_order(rt: HostRuntime) -> Result<(), Fail> {
     let alloc = rt.alloc();
@@ -38,7 +25,10 @@ fn pieces_are_told_in_order(rt: HostRuntime) -> Result<(), Fail> {
     let text = format!(in alloc; "Cannot open {path}.\n")?;
     let pieces = ["Cannot open ", path.as_str(), ".\n"];
     for &(room, whole) in &[(4110, true), (4109, false), (12, false)] {
-        told(alloc, &pieces, room, (whole, text.as_bytes().get(..room)))?;
+        let mut msgs = LimitedWriter::new(Vec::new(alloc), room, 1000);
+        let is_whole = write_pieces(&pieces, &mut msgs);
+        let found = (is_whole, Some(msgs.bytes.as_slice()));
+        same(room, found, (whole, text.as_bytes().get(..room)))?;
     }
     Ok(())
 }
