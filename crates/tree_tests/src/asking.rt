@@ -3,6 +3,7 @@
 use crate::cases::{Case, PADDED, Row, SHA256, SHA512};
 use crate::feeding::{end_file, feed_file};
 use crate::trees::small;
+use fixtures::same;
 use std::alloc::Global;
 use std::test::Fail;
 use verity_hash::Digest;
@@ -99,7 +100,7 @@ fn grows(alloc: Global, row: &Row, sizes: &[(usize, usize)]) -> Result<bool, Fai
 #[test]
 fn files_have_a_root_hash_at_any_time(rt: HostRuntime) -> Result<(), Fail> {
     for (row, sizes) in &GROWING {
-        assert!(rt; grows(rt.alloc(), row, sizes)?, "at {row:?}");
+        same(format_args!("{row:?}"), grows(rt.alloc(), row, sizes)?, true)?;
     }
     Ok(())
 }
@@ -111,7 +112,7 @@ fn last_of(fed: u64, closed: usize) -> Result<Result<Option<HashBlock>, FeedFaul
 }
 
 #[test]
-fn the_last_hash_block_goes_by_the_numbers(rt: HostRuntime) -> Result<(), Fail> {
+fn the_last_hash_block_goes_by_the_numbers(_rt: HostRuntime) -> Result<(), Fail> {
     let block = |level, index, start, at| {
         Ok(Some(HashBlock {
             level,
@@ -133,7 +134,7 @@ fn the_last_hash_block_goes_by_the_numbers(rt: HostRuntime) -> Result<(), Fail> 
         ((u64::MAX, usize::MAX), Err(FeedFault::Level)),
     ];
     for &((fed, closed), expected) in &cases {
-        assert_eq!(rt; last_of(fed, closed)?, expected, "after {fed}, {closed}");
+        same(format_args!("{fed}, {closed}"), last_of(fed, closed)?, expected)?;
     }
     Ok(())
 }

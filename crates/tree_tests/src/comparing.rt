@@ -1,7 +1,7 @@
 //! Stored trees that are compared with their data: 17 data blocks. All blocks have 512 bytes, so block (1,0) stands at
 //! byte 512, (0,0) at 1024 and (0,1) at 1536.
 use crate::trees::{small, small_tree};
-use fixtures::{data, flip};
+use fixtures::{data, flip, same};
 use std::alloc::Global;
 use std::test::Fail;
 use verity_hash::Digest;
@@ -124,11 +124,8 @@ fn the_first_difference_is_named(rt: HostRuntime) -> Result<(), Fail> {
         (Change::DeviceFails(2), Err(failed), 0),
     ];
     for &(change, result, rest) in &cases {
-        assert_eq!(rt;
-            verdict(rt.alloc(), change)?,
-            (result, rest),
-            "at {change:?}"
-        );
+        let found = verdict(rt.alloc(), change)?;
+        same(format_args!("{change:?}"), found, (result, rest))?;
     }
     Ok(())
 }

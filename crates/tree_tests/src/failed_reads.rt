@@ -1,6 +1,7 @@
 //! A stored tree is compared with its data while each read of a hash block fails in turn: which block is named, at
 //! every level, and how much of the data was read.
 use crate::cases::{Case, PADDED, Row, SHA256};
+use fixtures::same;
 use std::alloc::Global;
 use std::test::Fail;
 use verity_tree::{CompareFault, Fused, MemoryDevice, MemorySource, Store, compare};
@@ -53,6 +54,5 @@ fn first_wrong(alloc: Global, case: &Case) -> Result<Option<u64>, Fail> {
 #[test]
 fn each_failing_read_names_its_block(rt: HostRuntime) -> Result<(), Fail> {
     let case = Case::new(rt.alloc(), &NINE)?;
-    assert_eq!(rt; first_wrong(rt.alloc(), &case)?, None);
-    Ok(())
+    same("the failing read", first_wrong(rt.alloc(), &case)?, None)
 }

@@ -3,6 +3,7 @@
 //! how often it was called are compared with trees made from plain lists of bytes. All runs over a tree have one store.
 use crate::cases::{BEFORE, PADDED, Row, SHA1, SHA224, SHA256, SHA384, SHA512};
 use crate::sweep::{Sweep, Tried};
+use fixtures::same;
 use std::alloc::Global;
 use std::test::Fail;
 
@@ -151,31 +152,26 @@ fn first_wrong(alloc: Global, rows: &[Row], sources: &[Tried]) -> Result<Option<
 
 #[test]
 fn faults_are_answered_at_each_fan_out(rt: HostRuntime) -> Result<(), Fail> {
-    assert_eq!(rt; first_wrong(rt.alloc(), &FANS, &EACH)?, None);
-    assert_eq!(rt; first_wrong(rt.alloc(), &WIDE, &ONE_IN_MANY)?, None);
-    Ok(())
+    same("fan-outs up to 16", first_wrong(rt.alloc(), &FANS, &EACH)?, None)?;
+    same("a fan-out of 128", first_wrong(rt.alloc(), &WIDE, &ONE_IN_MANY)?, None)
 }
 
 #[test]
 fn faults_are_answered_at_each_block_size(rt: HostRuntime) -> Result<(), Fail> {
-    assert_eq!(rt; first_wrong(rt.alloc(), &LARGE, &LONG_READS)?, None);
-    Ok(())
+    same("large blocks", first_wrong(rt.alloc(), &LARGE, &LONG_READS)?, None)
 }
 
 #[test]
 fn faults_are_answered_in_the_largest_window(rt: HostRuntime) -> Result<(), Fail> {
-    assert_eq!(rt; first_wrong(rt.alloc(), &LARGER, &FEW_LONG_READS)?, None);
-    Ok(())
+    same("larger blocks", first_wrong(rt.alloc(), &LARGER, &FEW_LONG_READS)?, None)
 }
 
 #[test]
 fn faults_are_answered_at_the_largest_block_sizes(rt: HostRuntime) -> Result<(), Fail> {
-    assert_eq!(rt; first_wrong(rt.alloc(), &LARGEST, &LONG_READS)?, None);
-    Ok(())
+    same("the largest blocks", first_wrong(rt.alloc(), &LARGEST, &LONG_READS)?, None)
 }
 
 #[test]
 fn faults_are_answered_with_each_function(rt: HostRuntime) -> Result<(), Fail> {
-    assert_eq!(rt; first_wrong(rt.alloc(), &OTHERS, &ONE_IN_SOME)?, None);
-    Ok(())
+    same("the other functions", first_wrong(rt.alloc(), &OTHERS, &ONE_IN_SOME)?, None)
 }

@@ -1,6 +1,7 @@
 //! Trees that are built as pieces of their data come, beside trees made from plain lists of bytes.
 use crate::cases::{AFTER, BEFORE, Case, PADDED, Row, SHA1, SHA224, SHA256, SHA384, SHA512};
 use crate::trees::small;
+use fixtures::same;
 use std::alloc::Global;
 use std::test::Fail;
 use verity_hash::{Digest, SaltRule};
@@ -203,32 +204,30 @@ fn is_built(alloc: Global, case: &Case, rule: SaltRule, piece: usize) -> Result<
     Ok(built == case.root && device.bytes() == expected.as_slice())
 }
 
-#[test]
-fn trees_are_built_in_pieces(rt: HostRuntime) -> Result<(), Fail> {
-    for row in &SHAPES {
-        let case = Case::new(rt.alloc(), row)?;
-        for &piece in &PIECES {
-            let built = is_built(rt.alloc(), &case, row.0, piece)?;
-            assert!(rt; built, "at {row:?} in pieces of {piece}");
+/// An error for the first row, and length of pieces, whose tree isn't built, if there is one.
+fn are_built(alloc: Global, rows: &[Row], pieces: &[usize]) -> Result<(), Fail> {
+    for row in rows {
+        let case = Case::new(alloc, row)?;
+        for &piece in pieces {
+            let built = is_built(alloc, &case, row.0, piece)?;
+            same(format_args!("{row:?} in pieces of {piece}"), built, true)?;
         }
     }
     Ok(())
+}
+
+#[test]
+fn trees_are_built_in_pieces(rt: HostRuntime) -> Result<(), Fail> {
+    are_built(rt.alloc(), &SHAPES, &PIECES)
 }
 
 #[test]
 fn trees_of_several_windows_are_built_in_pieces(rt: HostRuntime) -> Result<(), Fail> {
-    for row in &WINDOWS {
-        let case = Case::new(rt.alloc(), row)?;
-        for &piece in &LENGTHS {
-            let built = is_built(rt.alloc(), &case, row.0, piece)?;
-            assert!(rt; built, "at {row:?} in pieces of {piece}");
-        }
-    }
-    Ok(())
+    are_built(rt.alloc(), &WINDOWS, &LENGTHS)
 }
 
 #[test]
-fn memory_has_room_for_open_blocks_and_a_window(rt: HostRuntime) -> Result<(), Fail> {
+fn memory_has_room_for_open_blocks_and_a_window(_rt: HostRuntime) -> Result<(), Fail> {
     let cases = [
         (SHA256, 64, 57 * 64 + 2 * 64),
         (SHA512, 128, 56 * 128 + 2 * 128),
@@ -240,11 +239,7 @@ fn memory_has_room_for_open_blocks_and_a_window(rt: HostRuntime) -> Result<(), F
     for &(algorithm, block, expected) in &cases {
         let settings = TreeSettings::fsverity(algorithm, b"", block)?;
         let length = FileBuilder::memory_length(&settings);
-        assert_eq!(rt;
-            length,
-            expected,
-            "with {algorithm:?} and blocks of {block}"
-        );
+        same(format_args!("{algorithm:?}, {block}"), length, expected)?;
     }
     Ok(())
 }
@@ -277,7 +272,7 @@ fn too_few_and_too_many_bytes_are_refused(rt: HostRuntime) -> Result<(), Fail> {
         (8192, (None, short(16))),
     ];
     for &(count, expected) in &cases {
-        assert_eq!(rt; faults(rt.alloc(), count)?, expected, "at {count}");
+        same(count, faults(rt.alloc(), count)?, expected)?;
     }
     Ok(())
 }

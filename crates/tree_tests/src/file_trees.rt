@@ -4,6 +4,7 @@ use crate::asking::GROWING;
 use crate::cases::{BEFORE, Case, PADDED, Row, SHA256, SHA512};
 use crate::feeding::next_length;
 use crate::trees::small;
+use fixtures::same;
 use std::alloc::Global;
 use std::test::Fail;
 use verity_hash::Digest;
@@ -265,7 +266,7 @@ fn trees_of_files_are_handed_out_in_pieces(rt: HostRuntime) -> Result<(), Fail> 
         for &piece in &PIECES {
             for is_asked in [false, true] {
                 let whole = is_whole(rt.alloc(), &case, piece, is_asked)?;
-                assert!(rt; whole, "at {row:?} in pieces of {piece}, {is_asked}");
+                same(format_args!("{row:?} in pieces of {piece}, {is_asked}"), whole, true)?;
             }
         }
     }
@@ -278,7 +279,7 @@ fn trees_of_files_of_several_windows_are_handed_out(rt: HostRuntime) -> Result<(
         let case = Case::new(rt.alloc(), row)?;
         for &piece in &LENGTHS {
             let whole = is_whole(rt.alloc(), &case, piece, piece > 4097)?;
-            assert!(rt; whole, "at {row:?} in pieces of {piece}");
+            same(format_args!("{row:?} in pieces of {piece}"), whole, true)?;
         }
     }
     Ok(())
@@ -333,7 +334,7 @@ fn grows(alloc: Global, row: &Row, sizes: &[(usize, usize)]) -> Result<bool, Fai
 #[test]
 fn files_have_their_last_hash_blocks_at_any_time(rt: HostRuntime) -> Result<(), Fail> {
     for (row, sizes) in &GROWING {
-        assert!(rt; grows(rt.alloc(), row, sizes)?, "at {row:?}");
+        same(format_args!("{row:?}"), grows(rt.alloc(), row, sizes)?, true)?;
     }
     Ok(())
 }
@@ -382,7 +383,7 @@ fn builders_of_file_trees_go_by_their_numbers(rt: HostRuntime) -> Result<(), Fai
     ];
     for &((fed, closed, count), expected) in &cases {
         let found = faults(rt.alloc(), fed, closed, count)?;
-        assert_eq!(rt; found, expected, "after {fed}, {closed}, with {count}");
+        same(format_args!("{fed}, {closed}, with {count}"), found, expected)?;
     }
     Ok(())
 }

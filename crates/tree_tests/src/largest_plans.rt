@@ -1,6 +1,7 @@
 //! The largest plans: as many levels as a plan can have, the longest stores, and a tree of many blocks.
 use crate::cases::{AFTER, BEFORE, PADDED, Row, SHA1, SHA224, SHA256, SHA384, SHA512, settings};
 use crate::trees::is_made;
+use fixtures::same;
 use std::alloc::Global;
 use std::test::Fail;
 use verity_hash::{Algorithm, SaltRule};
@@ -43,11 +44,8 @@ const LARGEST: [(SaltRule, Algorithm, (u32, u32), (usize, usize)); 12] = [
 fn the_largest_trees_have_stores(rt: HostRuntime) -> Result<(), Fail> {
     for &(rule, algorithm, sizes, (levels, length)) in &LARGEST {
         let found = largest(rt.alloc(), &settings(rule, algorithm, &[], sizes)?)?;
-        assert_eq!(rt;
-            found,
-            (levels, length, true),
-            "at {rule:?}, {algorithm:?}, {sizes:?}"
-        );
+        let at = format_args!("{rule:?}, {algorithm:?}, {sizes:?}");
+        same(at, found, (levels, length, true))?;
     }
     Ok(())
 }
@@ -61,11 +59,8 @@ fn each_number_of_levels_has_a_store(rt: HostRuntime) -> Result<(), Fail> {
         let blocks = (1_u64 << levels).min(MOST_BYTES / 64);
         let plan = Plan::for_blocks(&two_slots, blocks, 0)?;
         let length = levels.saturating_add(2).saturating_mul(64);
-        assert_eq!(rt;
-            numbers_of(rt.alloc(), &plan)?,
-            (levels, length, true),
-            "at {levels}"
-        );
+        let found = numbers_of(rt.alloc(), &plan)?;
+        same(levels, found, (levels, length, true))?;
     }
     Ok(())
 }
@@ -83,11 +78,7 @@ fn the_longest_store_is_made(rt: HostRuntime) -> Result<(), Fail> {
         (512, 17_000_000_000_000, (11, 530_432, true)),
     ];
     for &(size, blocks, numbers) in &cases {
-        assert_eq!(rt;
-            store_numbers(rt.alloc(), size, blocks)?,
-            numbers,
-            "at {size}"
-        );
+        same(size, store_numbers(rt.alloc(), size, blocks)?, numbers)?;
     }
     Ok(())
 }
@@ -97,6 +88,5 @@ const MANY_BLOCKS: Row = (PADDED, SHA256, b"", (64, 64), (2, 32), (131_195, 12))
 
 #[test]
 fn a_tree_of_many_blocks_is_made(rt: HostRuntime) -> Result<(), Fail> {
-    assert!(rt; is_made(rt.alloc(), &MANY_BLOCKS)?);
-    Ok(())
+    same("2050 blocks", is_made(rt.alloc(), &MANY_BLOCKS)?, true)
 }

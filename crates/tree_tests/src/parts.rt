@@ -6,6 +6,7 @@ ghost use Rattle.verity_builders.specs.Parts.{join_length};
 use crate::cases::{Case, Row};
 use crate::feeding::{SHAPES, last_after, next_length, write};
 use crate::trees::small;
+use fixtures::same;
 use std::alloc::Global;
 use std::test::Fail;
 use verity_hash::Digest;
@@ -184,7 +185,7 @@ fn parts_are_built_in_pieces(rt: HostRuntime) -> Result<(), Fail> {
     for row in &SHAPES {
         for &piece in &PIECES {
             let failed = level_not_built(rt.alloc(), row, piece, 1000)?;
-            assert_eq!(rt; failed, None, "at {row:?} in pieces of {piece}");
+            same(format_args!("{row:?} in pieces of {piece}"), failed, None)?;
         }
     }
     Ok(())
@@ -195,7 +196,7 @@ fn parts_are_joined(rt: HostRuntime) -> Result<(), Fail> {
     for row in &SHAPES {
         for &count in &COUNTS {
             let failed = level_not_built(rt.alloc(), row, 4096, count)?;
-            assert_eq!(rt; failed, None, "at {row:?}, {count} digests at once");
+            same(format_args!("{row:?}, {count} digests at once"), failed, None)?;
         }
     }
     Ok(())
@@ -216,7 +217,7 @@ fn parts_that_are_not_there_are_refused(rt: HostRuntime) -> Result<(), Fail> {
     for &(level, part, expected) in &cases {
         let mut memory = vec![in rt.alloc(); 0u8; part_length(&plan, level)?]?;
         let fault = PartBuilder::begin(&plan, level, part, memory.as_mut_slice()).err();
-        assert_eq!(rt; fault, expected, "part {part} of level {level}");
+        same(format_args!("part {part} of level {level}"), fault, expected)?;
     }
     Ok(())
 }

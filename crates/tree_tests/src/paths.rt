@@ -1,7 +1,7 @@
 //! Data blocks that are checked by their paths: 257 data blocks. All blocks have 512 bytes, so level 2 stands at byte
 //! 512 of the device, level 1 at 1024 and level 0 at 2048. Expected trees are made with `sha2`.
 use crate::trees::{small, small_tree};
-use fixtures::{Shape, data, flip, with_zeros};
+use fixtures::{Shape, data, flip, same, with_zeros};
 use std::alloc::{AllocError, Global};
 use std::test::Fail;
 use verity_hash::{Algorithm, Digest};
@@ -119,7 +119,7 @@ const CASES: [(usize, Change, u64, Result<(), PathFault>); 24] = [
 fn paths_are_judged(rt: HostRuntime) -> Result<(), Fail> {
     for &(i, change, asked, expected) in &CASES {
         let result = judged(rt.alloc(), i, change, asked)?;
-        assert_eq!(rt; result, expected, "at {change:?}, {i} for {asked}");
+        same(format_args!("{change:?}, {i} for {asked}"), result, expected)?;
     }
     Ok(())
 }
@@ -141,6 +141,5 @@ fn the_last_block_of_a_file_comes_filled(rt: HostRuntime) -> Result<(), Fail> {
     let last = with_zeros(rt.alloc(), &[b"a"], 4096)?;
     let whole = judged_last(rt.alloc(), last.as_slice())?;
     let cut = judged_last(rt.alloc(), b"a")?;
-    assert_eq!(rt; (whole, cut), (Ok(()), Err(PathFault::Length)));
-    Ok(())
+    same("the whole and the cut", (whole, cut), (Ok(()), Err(PathFault::Length)))
 }

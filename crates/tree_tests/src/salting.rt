@@ -1,7 +1,7 @@
 //! Salted hashes: published vectors, and those of one to eight blocks beside `sha1` and `sha2` over what is hashed for
 //! each.
 use crate::cases::salted_shape;
-use fixtures::{Shape, data};
+use fixtures::{Shape, data, same};
 use std::alloc::{AllocError, Global};
 use std::test::Fail;
 use verity_hash::{Algorithm, SaltRule, salted, salted_rows};
@@ -66,7 +66,7 @@ fn digits_of(alloc: Global, vector: &Vector) -> Result<String, AllocError> {
 fn all_functions_hash(rt: HostRuntime) -> Result<(), Fail> {
     for vector in &VECTORS {
         let (text, digits) = (digits_of(rt.alloc(), vector)?, vector.4);
-        assert_eq!(rt; text.as_str(), digits, "at {digits}");
+        same(digits, text.as_str(), digits)?;
     }
     Ok(())
 }
@@ -139,7 +139,7 @@ fn each_of_one_to_eight_blocks_has_its_salted_hash(rt: HostRuntime) -> Result<()
     for algorithm in &ALGORITHMS {
         for rule in &RULES {
             let wrong = wrong_rows(rt.alloc(), *algorithm, *rule)?;
-            assert_eq!(rt; wrong, None, "by {algorithm:?}, {rule:?}");
+            same(format_args!("{algorithm:?}, {rule:?}"), wrong, None)?;
         }
     }
     Ok(())

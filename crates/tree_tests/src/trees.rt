@@ -1,7 +1,7 @@
 //! Trees of all shapes beside trees made from plain lists of bytes and hashed with `sha1` and `sha2`, and a plan's
 //! numbers.
 use crate::cases::{AFTER, BEFORE, Case, PADDED, Row, SHA1, SHA224, SHA256, SHA384, SHA512};
-use fixtures::{Shape, Tree};
+use fixtures::{Shape, Tree, same};
 use std::alloc::{AllocError, Global};
 use std::test::Fail;
 use verity_hash::Algorithm;
@@ -21,10 +21,9 @@ pub fn small_tree(alloc: Global, data: &[u8], levels: usize) -> Result<Tree, All
 }
 
 #[test]
-fn a_plan_has_numbers(rt: HostRuntime) -> Result<(), Fail> {
+fn a_plan_has_numbers(_rt: HostRuntime) -> Result<(), Fail> {
     let plan = Plan::for_blocks(&small()?, 257, 1)?;
-    assert_eq!(rt; (plan.fan(), plan.levels(), plan.end()), (16, 3, 21));
-    Ok(())
+    same("257 blocks", (plan.fan(), plan.levels(), plan.end()), (16, 3, 21))
 }
 
 /// The largest block size of dm-verity.
@@ -126,8 +125,7 @@ pub fn is_made(alloc: Global, row: &Row) -> Result<bool, Fail> {
 #[test]
 fn trees_of_all_shapes_are_made(rt: HostRuntime) -> Result<(), Fail> {
     for row in &SHAPES {
-        let made = is_made(rt.alloc(), row)?;
-        assert!(rt; made, "at {row:?}");
+        same(format_args!("{row:?}"), is_made(rt.alloc(), row)?, true)?;
     }
     Ok(())
 }

@@ -2,6 +2,7 @@
 //! source can't see the window, but it sees what stands in the buffer that it is to fill: zeros at first, and later the
 //! data block that was read into the same row before.
 use crate::cases::{BEFORE, PADDED, SHA256, SHA512, settings};
+use fixtures::same;
 use std::alloc::Global;
 use std::test::Fail;
 use verity_hash::{Algorithm, Digest, SaltRule};
@@ -167,29 +168,25 @@ fn is_read(alloc: Global, case: &Batches) -> Result<bool, Fail> {
     Ok(passes(alloc, &plan)? == (true, [expected; 3]))
 }
 
-#[test]
-fn data_blocks_are_read_together_in_windows(rt: HostRuntime) -> Result<(), Fail> {
-    for case in &SMALLER {
-        let read = is_read(rt.alloc(), case)?;
-        assert!(rt; read, "at {case:?}");
+/// An error for the first case whose data blocks aren't read in its batches, if there is one.
+fn are_read(alloc: Global, cases: &[Batches]) -> Result<(), Fail> {
+    for case in cases {
+        same(format_args!("{case:?}"), is_read(alloc, case)?, true)?;
     }
     Ok(())
+}
+
+#[test]
+fn data_blocks_are_read_together_in_windows(rt: HostRuntime) -> Result<(), Fail> {
+    are_read(rt.alloc(), &SMALLER)
 }
 
 #[test]
 fn large_data_blocks_are_read_together_in_windows(rt: HostRuntime) -> Result<(), Fail> {
-    for case in &LARGEST {
-        let read = is_read(rt.alloc(), case)?;
-        assert!(rt; read, "at {case:?}");
-    }
-    Ok(())
+    are_read(rt.alloc(), &LARGEST)
 }
 
 #[test]
 fn few_data_blocks_are_read_together_in_windows(rt: HostRuntime) -> Result<(), Fail> {
-    for case in &FEWEST {
-        let read = is_read(rt.alloc(), case)?;
-        assert!(rt; read, "at {case:?}");
-    }
-    Ok(())
+    are_read(rt.alloc(), &FEWEST)
 }
