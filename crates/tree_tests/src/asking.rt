@@ -1,6 +1,6 @@
 //! Root hashes that are asked for between pieces, as often as one likes, and hash blocks that are asked for again. What
 //! is expected is made from plain lists of bytes.
-use crate::cases::{Case, PADDED, Row, SHA256, SHA512};
+use crate::cases::{Case, PADDED, Row, SHA256, SHA512, plan_of};
 use crate::feeding::{end_file, feed_file};
 use crate::trees::small;
 use fixtures::same;
@@ -78,29 +78,42 @@ pub const GROWING: [(Row, &[(usize, usize)]); 4] = [
     ),
 ];
 
-/// Whether a file that grows has its root hash at each size, asked for twice, and zeros before the first byte.
-fn grows(alloc: Global, row: &Row, sizes: &[(usize, usize)]) -> Result<bool, Fail> {
-    let settings = *Case::new(alloc, row)?.plan.settings();
+/// Whether a row's file, of which this many bytes were fed, has its root hash once it is fed the rest, asked for twice.
+fn goes_on(
+    alloc: Global,
+    builder: &mut FileBuilder,
+    memory: &mut [u8],
+    row: &Row,
+    before: usize,
+) -> Result<bool, Fail> {
+    let case = Case::new(alloc, row)?;
+    let rest = case.data.as_slice().get(before..).ok_or("it shrinks")?;
+    feed_file(builder, memory, rest)?;
+    let first = end_file(builder, memory)?;
+    let second = end_file(builder, memory)?;
+    Ok(first == case.root && second == case.root)
+}
+
+/// An error unless a file that grows has its root hash at each size, asked for twice, and zeros before the first byte.
+fn grows(alloc: Global, row: &Row, sizes: &[(usize, usize)]) -> Result<(), Fail> {
+    let settings = *plan_of(row)?.settings();
     let mut memory = vec![in alloc; 0xa5u8; FileBuilder::memory_length(&settings)]?;
-    let mut builder = FileBuilder::begin(&settings, memory.as_mut_slice());
-    let mut is_right = end_file(&builder, memory.as_mut_slice())? == Digest::zeros(row.1);
+    let memory = memory.as_mut_slice();
+    let mut builder = FileBuilder::begin(&settings, memory);
+    let mut is_right = end_file(&builder, memory)? == Digest::zeros(row.1);
     let mut before = 0;
     for &size in sizes {
-        let case = Case::new(alloc, &(row.0, row.1, row.2, row.3, row.4, size))?;
-        let piece = case.data.as_slice().get(before..).ok_or("it shrinks")?;
-        feed_file(&mut builder, memory.as_mut_slice(), piece)?;
+        let grown = (row.0, row.1, row.2, row.3, row.4, size);
+        is_right = goes_on(alloc, &mut builder, memory, &grown, before)? && is_right;
         before = size.0;
-        let first = end_file(&builder, memory.as_mut_slice())?;
-        let second = end_file(&builder, memory.as_mut_slice())?;
-        is_right = is_right && first == case.root && second == case.root;
     }
-    Ok(is_right)
+    same(format_args!("{row:?}"), is_right, true)
 }
 
 #[test]
 fn files_have_a_root_hash_at_any_time(rt: HostRuntime) -> Result<(), Fail> {
     for (row, sizes) in &GROWING {
-        same(format_args!("{row:?}"), grows(rt.alloc(), row, sizes)?, true)?;
+        grows(rt.alloc(), row, sizes)?;
     }
     Ok(())
 }
@@ -134,7 +147,8 @@ fn the_last_hash_block_goes_by_the_numbers(_rt: HostRuntime) -> Result<(), Fail>
         ((u64::MAX, usize::MAX), Err(FeedFault::Level)),
     ];
     for &((fed, closed), expected) in &cases {
-        same(format_args!("{fed}, {closed}"), last_of(fed, closed)?, expected)?;
+        let found = last_of(fed, closed)?;
+        same(format_args!("{fed}, {closed}"), found, expected)?;
     }
     Ok(())
 }

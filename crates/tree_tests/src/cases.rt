@@ -5,7 +5,7 @@ use fixtures::{Shape, Tree, data, with_zeros};
 use std::alloc::{AllocError, Global};
 use std::test::Fail;
 use verity_hash::{Algorithm, Digest, SaltRule};
-use verity_tree::{HashType, Plan, SettingFault, TreeSettings};
+use verity_tree::{HashType, MemoryDevice, Plan, SettingFault, TreeSettings};
 
 pub const SHA1: Algorithm = Algorithm::Sha1;
 
@@ -81,10 +81,30 @@ pub fn settings(
     TreeSettings::verity(algorithm, hash_type, salt, data_block, hash_block)
 }
 
-/// A row's plan, whose hash area begins after one hash block; its data, and the tree made from plain lists, with its
+/// A row's plan, whose hash area begins after one hash block.
+pub fn plan_of(row: &Row) -> Result<Plan, Fail> {
+    let settings = settings(row.0, row.1, row.2, row.3)?;
+    Ok(Plan::for_bytes(&settings, row.5.0 as u64, 1)?)
+}
+
+/// How a row's blocks are hashed and laid out.
+fn shape_of(alloc: Global, row: &Row) -> Result<Shape, AllocError> {
+    let mut shape = salted_shape(alloc, row.1, row.0, row.2)?;
+    (shape.data_block, shape.hash_block) = (row.3.0 as usize, row.3.1 as usize);
+    (shape.slots, shape.width) = row.4;
+    Ok(shape)
+}
+
+/// The root hash of a tree made from plain lists.
+pub fn root_of(tree: &Tree) -> Result<Digest, Fail> {
+    Ok(Digest::from_bytes(tree.root.as_slice()).ok_or("a root hash")?)
+}
+
+/// A row and its plan, whose hash area begins after one hash block; its data, and the tree made from plain lists, with its
 /// root hash.
 #[derive(Drop)]
 pub struct Case {
+    pub row: Row,
     pub plan: Plan,
     pub root: Digest,
     pub shape: Shape,
@@ -94,20 +114,29 @@ pub struct Case {
 
 impl Case {
     pub fn new(alloc: Global, row: &Row) -> Result<Case, Fail> {
-        let (rule, algorithm, salt, sizes, slots, (size, levels)) = *row;
-        let plan = Plan::for_bytes(&settings(rule, algorithm, salt, sizes)?, size as u64, 1)?;
-        let mut shape = salted_shape(alloc, algorithm, rule, salt)?;
-        (shape.data_block, shape.hash_block) = (sizes.0 as usize, sizes.1 as usize);
-        (shape.slots, shape.width) = slots;
+        let plan = plan_of(row)?;
+        let shape = shape_of(alloc, row)?;
+        let (size, levels) = row.5;
         let data = data(alloc, size)?;
         let tree = shape.tree(alloc, data.as_slice(), levels)?;
-        let root = Digest::from_bytes(tree.root.as_slice()).ok_or("a root hash")?;
         Ok(Case {
+            row: *row,
             plan,
-            root,
+            root: root_of(&tree)?,
             shape,
             data,
             tree,
         })
+    }
+
+    /// A device of one hash block of zeros, which stands before the tree.
+    pub fn device(&self, alloc: Global) -> Result<MemoryDevice, AllocError> {
+        Ok(MemoryDevice::new(vec![in alloc; 0u8; self.shape.hash_block]?))
+    }
+
+    /// Whether a device holds the tree after that hash block.
+    pub fn is_on(&self, alloc: Global, device: &MemoryDevice) -> Result<bool, AllocError> {
+        let expected = self.tree.on_device(alloc, self.shape.hash_block)?;
+        Ok(device.bytes() == expected.as_slice())
     }
 }

@@ -1,5 +1,6 @@
 //! Stored trees that are compared with their data: 17 data blocks. All blocks have 512 bytes, so block (1,0) stands at
 //! byte 512, (0,0) at 1024 and (0,1) at 1536.
+use crate::cases::root_of;
 use crate::trees::{small, small_tree};
 use fixtures::{data, flip, same};
 use std::alloc::Global;
@@ -41,7 +42,7 @@ impl Given {
         let data = data(alloc, 8704)?;
         let tree = small_tree(alloc, data.as_slice(), 2)?;
         Ok(Given {
-            root: Digest::from_bytes(tree.root.as_slice()).ok_or("a root hash")?,
+            root: root_of(&tree)?,
             stored: tree.on_device(alloc, 512)?,
             data,
             source_fails: 0,
@@ -85,12 +86,8 @@ fn verdict(alloc: Global, change: Change) -> Result<Verdict, Fail> {
 }
 
 /// A hash block that differs, and where.
-fn differs(level: usize, index: u64, part: Part) -> Result<(), CompareFault> {
-    Err(CompareFault::Differs {
-        level,
-        block: index,
-        part,
-    })
+fn differs(level: usize, block: u64, part: Part) -> Result<(), CompareFault> {
+    Err(CompareFault::Differs { level, block, part })
 }
 
 #[test]

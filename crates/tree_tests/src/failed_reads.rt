@@ -38,12 +38,9 @@ fn ending(alloc: Global, case: &Case, failing: u64) -> Result<Ending, Fail> {
 
 /// The first read whose failure isn't answered with its block, at once, with as much data read as it should be.
 fn first_wrong(alloc: Global, case: &Case) -> Result<Option<u64>, Fail> {
-    for (before, &(level, index, rest)) in ORDER.iter().enumerate() {
+    for (before, &(level, block, rest)) in ORDER.iter().enumerate() {
         let failing = (before as u64).saturating_add(1);
-        let result = Err(CompareFault::DeviceFailed {
-            level,
-            block: index,
-        });
+        let result = Err(CompareFault::DeviceFailed { level, block });
         if ending(alloc, case, failing)? != (result, rest, failing) {
             return Ok(Some(failing));
         }

@@ -4,7 +4,7 @@ use crate::trees::small;
 use fixtures::same;
 use std::alloc::Global;
 use std::test::Fail;
-use verity_hash::{Digest, SaltRule};
+use verity_hash::{Algorithm, Digest};
 use verity_io::MOST_BYTES;
 use verity_tree::{
     Device, Fed, FeedFault, FileBuilder, HashBlock, MemoryDevice, Plan, TreeBuilder, TreeSettings,
@@ -71,12 +71,7 @@ pub fn next_length(piece: usize, step: usize) -> usize {
 }
 
 /// Writes a hash block that was handed out at its place.
-pub fn write(
-    device: &mut MemoryDevice,
-    memory: &[u8],
-    block: &HashBlock,
-    size: usize,
-) -> Result<(), Fail> {
+fn write(to: &mut MemoryDevice, memory: &[u8], block: HashBlock, size: usize) -> Result<(), Fail> {
     let Some(bytes) = memory.get(block.at..block.at.saturating_add(size)) else {
         return Err("a hash block outside the memory".into());
     };
@@ -84,27 +79,41 @@ pub fn write(
         Some(end) if end <= MOST_BYTES => {}
         _ => return Err("a hash block too far out".into()),
     }
-    Ok(
-        device
-            .write_at(block.start, bytes)
-            .map_err(|_| "cannot write")?,
-    )
+    let written = to.write_at(block.start, bytes);
+    Ok(written.map_err(|_| "cannot write")?)
 }
 
-/// Feeds a piece, in memory of the right length.
-fn feed(builder: &mut TreeBuilder, memory: &mut [u8], piece: &[u8]) -> Result<Fed, Fail> {
-    if memory.len() != TreeBuilder::memory_length(&builder.plan) {
-        return Err("another length".into());
-    }
-    Ok(builder.feed(memory, piece)?)
+/// A builder that is fed in pieces and hands out the hash blocks of a plan. Memory of another length than it wants is an
+/// error.
+pub trait Builder {
+    /// Feeds a piece.
+    fn take(&mut self, memory: &mut [u8], piece: &[u8]) -> Result<Fed, Fail>;
+
+    /// The hash block that was handed out last.
+    fn last(&self) -> Result<Option<HashBlock>, FeedFault>;
+
+    /// The digest at the end.
+    fn digest(&self, memory: &mut [u8]) -> Result<Digest, Fail>;
 }
 
-/// The root hash that a builder gives at the end, with memory of the right length.
-fn end(builder: &TreeBuilder, memory: &mut [u8]) -> Result<Digest, Fail> {
-    if memory.len() != TreeBuilder::memory_length(&builder.plan) {
-        return Err("another length".into());
+impl Builder for TreeBuilder {
+    fn take(&mut self, memory: &mut [u8], piece: &[u8]) -> Result<Fed, Fail> {
+        if memory.len() != TreeBuilder::memory_length(&self.plan) {
+            return Err("another length".into());
+        }
+        Ok(self.feed(memory, piece)?)
     }
-    Ok(builder.end(memory)?)
+
+    fn last(&self) -> Result<Option<HashBlock>, FeedFault> {
+        self.last_block()
+    }
+
+    fn digest(&self, memory: &mut [u8]) -> Result<Digest, Fail> {
+        if memory.len() != TreeBuilder::memory_length(&self.plan) {
+            return Err("another length".into());
+        }
+        Ok(self.end(memory)?)
+    }
 }
 
 /// The root hash of what was fed of a file, with memory of the right length.
@@ -123,94 +132,103 @@ pub fn feed_file(builder: &mut FileBuilder, memory: &mut [u8], piece: &[u8]) -> 
     Ok(builder.feed(memory, piece)?)
 }
 
-/// The hash block that was handed out last after an answer, if it was `last` before.
-pub fn last_after(fed: &Fed, last: Option<HashBlock>) -> Option<HashBlock> {
-    if fed.hash_block.is_some() || fed.taken > 0 {
-        return fed.hash_block;
-    }
-    last
-}
-
-/// The root hash of some data that is fed in pieces of a length, with each hash block written as it is handed out, and
-/// named again by `last_block`; the root hash is asked for twice.
-fn build_in_pieces(
-    alloc: Global,
-    plan: &Plan,
-    data: &[u8],
-    piece: usize,
+/// Feeds some bytes in pieces of a length, in so many steps at most, with each hash block of a size written as it is
+/// handed out, and named again by the builder. The last of them, if nothing was fed after it.
+pub fn feed_all<B: Builder>(
+    builder: &mut B,
+    memory: &mut [u8],
+    bytes: &[u8],
+    (piece, steps): (usize, usize),
+    size: usize,
     device: &mut MemoryDevice,
-) -> Result<Digest, Fail> {
-    let mut memory = vec![in alloc; 0xa5u8; TreeBuilder::memory_length(plan)]?;
-    let mut builder = TreeBuilder::begin(plan, memory.as_mut_slice());
-    let (mut rest, mut last) = (data, None);
-    for step in 0..data.len().saturating_mul(2).saturating_add(8) {
+) -> Result<Option<HashBlock>, Fail> {
+    let (mut rest, mut last) = (bytes, None);
+    for step in 0..steps {
         let next = &rest[..next_length(piece, step).min(rest.len())];
-        let fed = feed(&mut builder, memory.as_mut_slice(), next)?;
+        let fed = builder.take(memory, next)?;
         rest = rest.get(fed.taken..).ok_or("more than there are")?;
-        last = last_after(&fed, last);
-        if builder.last_block()? != last {
+        if fed.hash_block.is_some() || fed.taken > 0 {
+            last = fed.hash_block;
+        }
+        if builder.last()? != last {
             return Err("another last hash block".into());
         }
         match fed.hash_block {
-            Some(block) => write(device, memory.as_slice(), &block, plan.hash_block())?,
+            Some(block) => write(device, memory, block, size)?,
             None if rest.is_empty() => break,
             None => {}
         }
     }
-    let first = end(&builder, memory.as_mut_slice())?;
-    if end(&builder, memory.as_mut_slice())? != first || builder.last_block()? != last {
+    Ok(last)
+}
+
+/// The digest of some data that is fed so. It is asked for twice.
+pub fn digest_of<B: Builder>(
+    builder: &mut B,
+    memory: &mut [u8],
+    data: &[u8],
+    piece: usize,
+    size: usize,
+    device: &mut MemoryDevice,
+) -> Result<Digest, Fail> {
+    let steps = data.len().saturating_mul(2).saturating_add(8);
+    let last = feed_all(builder, memory, data, (piece, steps), size, device)?;
+    let first = builder.digest(memory)?;
+    if builder.digest(memory)? != first || builder.last()? != last {
         return Err("another end".into());
     }
     Ok(first)
 }
 
+/// Whether a tree that is built in pieces of a length is that from plain lists.
+fn has_tree(alloc: Global, case: &Case, piece: usize) -> Result<bool, Fail> {
+    let (data, size) = (case.data.as_slice(), case.plan.hash_block());
+    let mut device = case.device(alloc)?;
+    let mut memory = vec![in alloc; 0xa5u8; TreeBuilder::memory_length(&case.plan)]?;
+    let memory = memory.as_mut_slice();
+    let mut builder = TreeBuilder::begin(&case.plan, memory);
+    let root = digest_of(&mut builder, memory, data, piece, size, &mut device)?;
+    Ok(root == case.root && case.is_on(alloc, &device)?)
+}
+
 /// The root hash of a file that is fed in pieces of a length. It is asked for after each of them, or only at the end.
-fn digest_in_pieces(
-    alloc: Global,
-    plan: &Plan,
-    data: &[u8],
-    piece: usize,
-    is_asked: bool,
-) -> Result<Digest, Fail> {
-    let settings = plan.settings();
+fn file_digest(alloc: Global, case: &Case, piece: usize, is_asked: bool) -> Result<Digest, Fail> {
+    let (settings, mut rest) = (case.plan.settings(), case.data.as_slice());
     let mut memory = vec![in alloc; 0xa5u8; FileBuilder::memory_length(settings)]?;
-    let mut builder = FileBuilder::begin(settings, memory.as_mut_slice());
-    let mut rest = data;
-    for step in 0..data.len().saturating_mul(2).saturating_add(8) {
+    let memory = memory.as_mut_slice();
+    let mut builder = FileBuilder::begin(settings, memory);
+    for step in 0..rest.len().saturating_mul(2).saturating_add(8) {
         let (next, after) = rest.split_at(next_length(piece, step).min(rest.len()));
-        feed_file(&mut builder, memory.as_mut_slice(), next)?;
+        feed_file(&mut builder, memory, next)?;
         rest = after;
         if is_asked {
-            end_file(&builder, memory.as_mut_slice())?;
+            end_file(&builder, memory)?;
         }
         if rest.is_empty() {
             break;
         }
     }
-    end_file(&builder, memory.as_mut_slice())
+    end_file(&builder, memory)
 }
 
-/// Whether a tree that is built in pieces of a length is that from plain lists, and so is a file's root hash.
-fn is_built(alloc: Global, case: &Case, rule: SaltRule, piece: usize) -> Result<bool, Fail> {
-    let (plan, data) = (&case.plan, case.data.as_slice());
-    let expected = case.tree.on_device(alloc, case.shape.hash_block)?;
-    let mut device = MemoryDevice::new(vec![in alloc; 0u8; case.shape.hash_block]?);
-    let built = build_in_pieces(alloc, plan, data, piece, &mut device)?;
+/// An error unless a tree that is built in pieces of a length is that from plain lists, and so is a file's root hash.
+fn is_built(alloc: Global, case: &Case, piece: usize) -> Result<(), Fail> {
+    let row = &case.row;
+    let mut is_right = has_tree(alloc, case, piece)?;
     for is_asked in [false, true] {
-        if rule == PADDED && digest_in_pieces(alloc, plan, data, piece, is_asked)? != case.root {
-            return Ok(false);
+        if row.0 == PADDED && file_digest(alloc, case, piece, is_asked)? != case.root {
+            is_right = false;
         }
     }
-    Ok(built == case.root && device.bytes() == expected.as_slice())
+    same(format_args!("{row:?} in pieces of {piece}"), is_right, true)
 }
 
-/// An error for the first row, and length of pieces, whose tree isn't built, if there is one.
+/// An error unless all rows' trees are built in pieces of each length.
 fn are_built(alloc: Global, rows: &[Row], pieces: &[usize]) -> Result<(), Fail> {
     for row in rows {
         let case = Case::new(alloc, row)?;
         for &piece in pieces {
-            let built = is_built(alloc, &case, row.0, piece)?;
-            same(format_args!("{row:?} in pieces of {piece}"), built, true)?;
+            is_built(alloc, &case, piece)?;
         }
     }
     Ok(())
@@ -226,17 +244,19 @@ fn trees_of_several_windows_are_built_in_pieces(rt: HostRuntime) -> Result<(), F
     are_built(rt.alloc(), &WINDOWS, &LENGTHS)
 }
 
+/// The function, the size of a block, and how long the memory for a file is.
+const MEMORY: [(Algorithm, u32, usize); 6] = [
+    (SHA256, 64, 57 * 64 + 2 * 64),
+    (SHA512, 128, 56 * 128 + 2 * 128),
+    (SHA256, 4096, 8 * 4096 + 8 * 4096),
+    (SHA512, 4096, 9 * 4096 + 8 * 4096),
+    (SHA512, 131_072, 5 * 131_072 + 4 * 131_072),
+    (SHA512, 524_288, 4 * 524_288 + 524_288),
+];
+
 #[test]
 fn memory_has_room_for_open_blocks_and_a_window(_rt: HostRuntime) -> Result<(), Fail> {
-    let cases = [
-        (SHA256, 64, 57 * 64 + 2 * 64),
-        (SHA512, 128, 56 * 128 + 2 * 128),
-        (SHA256, 4096, 8 * 4096 + 8 * 4096),
-        (SHA512, 4096, 9 * 4096 + 8 * 4096),
-        (SHA512, 131_072, 5 * 131_072 + 4 * 131_072),
-        (SHA512, 524_288, 4 * 524_288 + 524_288),
-    ];
-    for &(algorithm, block, expected) in &cases {
+    for &(algorithm, block, expected) in &MEMORY {
         let settings = TreeSettings::fsverity(algorithm, b"", block)?;
         let length = FileBuilder::memory_length(&settings);
         same(format_args!("{algorithm:?}, {block}"), length, expected)?;
@@ -244,35 +264,39 @@ fn memory_has_room_for_open_blocks_and_a_window(_rt: HostRuntime) -> Result<(), 
     Ok(())
 }
 
-/// The faults of a builder of the tree above 17 blocks of 512 bytes: for one piece of so many bytes, and then at the
-/// end.
-fn faults(alloc: Global, count: usize) -> Result<(Option<FeedFault>, Option<FeedFault>), Fail> {
+/// The faults of a builder of the tree above 17 blocks of 512 bytes: for one piece, and then at the end.
+type Faults = (Option<FeedFault>, Option<FeedFault>);
+
+fn faults(alloc: Global, piece: &[u8]) -> Result<Faults, Fail> {
     let plan = Plan::for_blocks(&small()?, 17, 1)?;
     let mut memory = vec![in alloc; 0u8; TreeBuilder::memory_length(&plan)]?;
-    let piece = vec![in alloc; 7u8; count]?;
-    let mut builder = TreeBuilder::begin(&plan, memory.as_mut_slice());
+    let memory = memory.as_mut_slice();
+    let mut builder = TreeBuilder::begin(&plan, memory);
     if memory.len() != TreeBuilder::memory_length(&builder.plan) {
         return Err("another length".into());
     }
-    let fed = builder.feed(memory.as_mut_slice(), piece.as_slice()).err();
+    let fed = builder.feed(memory, piece).err();
     if memory.len() != TreeBuilder::memory_length(&builder.plan) {
         return Err("another length".into());
     }
-    Ok((fed, builder.end(memory.as_mut_slice()).err()))
+    Ok((fed, builder.end(memory).err()))
 }
+
+const LONG: Option<FeedFault> = Some(FeedFault::TooLong);
+
+/// The number of bytes of a piece, and the faults.
+const COUNTS: [(usize, Faults); 4] = [
+    (0, (None, Some(FeedFault::TooShort(0)))),
+    (513, (None, Some(FeedFault::TooShort(1)))),
+    (17 * 512 + 1, (LONG, Some(FeedFault::TooShort(0)))),
+    (8192, (None, Some(FeedFault::TooShort(16)))),
+];
 
 #[test]
 fn too_few_and_too_many_bytes_are_refused(rt: HostRuntime) -> Result<(), Fail> {
-    let long = Some(FeedFault::TooLong);
-    let short = |block| Some(FeedFault::TooShort(block));
-    let cases = [
-        (0, (None, short(0))),
-        (513, (None, short(1))),
-        (17 * 512 + 1, (long, short(0))),
-        (8192, (None, short(16))),
-    ];
-    for &(count, expected) in &cases {
-        same(count, faults(rt.alloc(), count)?, expected)?;
+    for &(count, expected) in &COUNTS {
+        let piece = vec![in rt.alloc(); 7u8; count]?;
+        same(count, faults(rt.alloc(), piece.as_slice())?, expected)?;
     }
     Ok(())
 }

@@ -1,7 +1,7 @@
 //! Trees of files whose length nobody knows beforehand, with each hash block handed out, beside trees made from plain
 //! lists of bytes, and beside what `build` writes.
 use crate::asking::GROWING;
-use crate::cases::{BEFORE, Case, PADDED, Row, SHA256, SHA512};
+use crate::cases::{BEFORE, Case, PADDED, Row, SHA256, SHA512, plan_of};
 use crate::feeding::next_length;
 use crate::trees::small;
 use fixtures::same;
@@ -9,8 +9,7 @@ use std::alloc::Global;
 use std::test::Fail;
 use verity_hash::Digest;
 use verity_tree::{
-    FeedFault, FileFed, FileHashBlock, FileTreeBuilder, MemoryDevice, MemorySource, Store,
-    TreeSettings, build,
+    FeedFault, FileFed, FileHashBlock, FileTreeBuilder, MemorySource, Store, TreeSettings, build,
 };
 
 /// Files of a block, of powers of the fan-out, and of a byte more, in windows of eight data blocks and of two; after
@@ -48,42 +47,6 @@ const LARGER: [Row; 6] = [
 /// The lengths of their pieces: about those of a page and a window, and all at once.
 const LENGTHS: [usize; 6] = [511, 4096, 4097, 32_768, 98_305, 2_000_000];
 
-/// Feeds a piece, in memory of the right length.
-fn feed(
-    builder: &mut FileTreeBuilder,
-    memory: &mut [u8],
-    piece: &[u8],
-) -> Result<Result<FileFed, FeedFault>, Fail> {
-    if memory.len() != FileTreeBuilder::memory_length(&builder.settings) {
-        return Err("another length".into());
-    }
-    Ok(builder.feed(memory, piece))
-}
-
-/// The root hash of what was fed, with memory of the right length.
-fn end(builder: &FileTreeBuilder, memory: &mut [u8]) -> Result<Result<Digest, FeedFault>, Fail> {
-    if memory.len() != FileTreeBuilder::memory_length(&builder.settings) {
-        return Err("another length".into());
-    }
-    Ok(builder.end(memory))
-}
-
-/// The last hash block of a level and its number, with memory and block of the right lengths.
-fn end_block(
-    builder: &FileTreeBuilder,
-    memory: &mut [u8],
-    level: usize,
-    block: &mut [u8],
-) -> Result<Result<u64, FeedFault>, Fail> {
-    if memory.len() != FileTreeBuilder::memory_length(&builder.settings) {
-        return Err("another length".into());
-    }
-    if block.len() != builder.settings.hash_block() as usize {
-        return Err("another block".into());
-    }
-    Ok(builder.end_block(memory, level, block))
-}
-
 /// A file that is fed: the builder, its memory, and room for a hash block that is left.
 #[derive(Drop)]
 struct Fed {
@@ -93,40 +56,44 @@ struct Fed {
 }
 
 impl Fed {
-    /// A builder with these numbers, whose memory holds nothing.
-    fn of(alloc: Global, builder: FileTreeBuilder) -> Result<Fed, Fail> {
-        let settings = builder.settings;
-        let memory = vec![in alloc; 0xa5u8; FileTreeBuilder::memory_length(&settings)]?;
-        let block = vec![in alloc; 0x5au8; settings.hash_block() as usize]?;
-        Ok(Fed {
-            builder,
-            memory,
-            block,
-        })
-    }
-
+    /// A builder to which nothing was fed.
     fn new(alloc: Global, settings: &TreeSettings) -> Result<Fed, Fail> {
         let mut memory = vec![in alloc; 0xa5u8; FileTreeBuilder::memory_length(settings)]?;
-        let builder = FileTreeBuilder::begin(settings, memory.as_mut_slice());
-        let block = vec![in alloc; 0x5au8; settings.hash_block() as usize]?;
         Ok(Fed {
-            builder,
+            builder: FileTreeBuilder::begin(settings, memory.as_mut_slice()),
             memory,
-            block,
+            block: vec![in alloc; 0x5au8; settings.hash_block() as usize]?,
         })
     }
 
+    /// Feeds a piece, in memory of the right length.
     fn feed(&mut self, piece: &[u8]) -> Result<Result<FileFed, FeedFault>, Fail> {
-        feed(&mut self.builder, self.memory.as_mut_slice(), piece)
+        let memory = self.memory.as_mut_slice();
+        if memory.len() != FileTreeBuilder::memory_length(&self.builder.settings) {
+            return Err("another length".into());
+        }
+        Ok(self.builder.feed(memory, piece))
     }
 
+    /// The root hash of what was fed, with memory of the right length.
     fn end(&mut self) -> Result<Result<Digest, FeedFault>, Fail> {
-        end(&self.builder, self.memory.as_mut_slice())
+        let memory = self.memory.as_mut_slice();
+        if memory.len() != FileTreeBuilder::memory_length(&self.builder.settings) {
+            return Err("another length".into());
+        }
+        Ok(self.builder.end(memory))
     }
 
+    /// The last hash block of a level and its number, with memory and block of the right lengths.
     fn end_block(&mut self, level: usize) -> Result<Result<u64, FeedFault>, Fail> {
-        let block = self.block.as_mut_slice();
-        end_block(&self.builder, self.memory.as_mut_slice(), level, block)
+        let (memory, block) = (self.memory.as_mut_slice(), self.block.as_mut_slice());
+        if memory.len() != FileTreeBuilder::memory_length(&self.builder.settings) {
+            return Err("another length".into());
+        }
+        if block.len() != self.builder.settings.hash_block() as usize {
+            return Err("another block".into());
+        }
+        Ok(self.builder.end_block(memory, level, block))
     }
 
     /// Asks for all that is left, whatever it is: how many levels the file's tree has by now.
@@ -156,11 +123,8 @@ impl Placed {
         let size = case.shape.hash_block;
         let offset = case.tree.offset_of(level, index as usize, size);
         let at = offset.saturating_add(size);
-        let Some(room) = self
-            .device
-            .as_mut_slice()
-            .get_mut(at..at.saturating_add(size))
-        else {
+        let room = self.device.as_mut_slice();
+        let Some(room) = room.get_mut(at..at.saturating_add(size)) else {
             return Err("a hash block past the tree".into());
         };
         if room.len() != bytes.len() {
@@ -173,18 +137,10 @@ impl Placed {
 
     /// Puts a hash block that was handed out, as it stands in the memory, at its place. Nothing else is given while the
     /// rest of its piece is still to be fed.
-    fn put_handed(
-        &mut self,
-        case: &Case,
-        fed: &mut Fed,
-        block: &FileHashBlock,
-    ) -> Result<(), Fail> {
+    fn put_handed(&mut self, case: &Case, fed: &mut Fed, block: FileHashBlock) -> Result<(), Fail> {
         let end = block.at.saturating_add(case.shape.hash_block);
-        let bytes = fed
-            .memory
-            .as_slice()
-            .get(block.at..end)
-            .ok_or("outside the memory")?;
+        let bytes = fed.memory.as_slice().get(block.at..end);
+        let bytes = bytes.ok_or("outside the memory")?;
         self.put(case, block.level, block.index, bytes)?;
         let waiting = Some(FeedFault::Waiting);
         if fed.end()?.err() != waiting || fed.end_block(0)?.err() != waiting {
@@ -209,7 +165,7 @@ fn feed_all(
         let answer = fed.feed(next)??;
         rest = rest.get(answer.taken..).ok_or("more than there are")?;
         match answer.hash_block {
-            Some(block) => placed.put_handed(case, fed, &block)?,
+            Some(block) => placed.put_handed(case, fed, block)?,
             None if rest.is_empty() => return Ok(()),
             None if is_asked && !next.is_empty() => {
                 fed.ask()?;
@@ -220,43 +176,57 @@ fn feed_all(
     Err("it never ends".into())
 }
 
-/// What `build` writes for the data of a case.
-fn built(alloc: Global, case: &Case) -> Result<Vec<u8>, Fail> {
+/// Whether `build` writes the tree of a case.
+fn is_written(alloc: Global, case: &Case) -> Result<bool, Fail> {
     let mut store = Store::new(alloc, &case.plan)?;
     if !store.fits(&case.plan) {
         return Err("a store".into());
     }
     let mut source = MemorySource::new(case.data.as_slice());
-    let mut device = MemoryDevice::new(vec![in alloc; 0u8; case.shape.hash_block]?);
-    match build(&case.plan, &mut store, &mut source, &mut device) {
-        Ok(_) => Ok(Vec::from_slice(alloc, device.bytes())?),
-        Err(_) => Err("a tree".into()),
-    }
+    let mut device = case.device(alloc)?;
+    let built = build(&case.plan, &mut store, &mut source, &mut device);
+    Ok(built.is_ok() && case.is_on(alloc, &device)?)
 }
 
-/// Whether a file that is fed in pieces of a length hands out, with the last hash blocks of all levels, each hash block
-/// of its tree once, and has its root hash.
-fn is_whole(alloc: Global, case: &Case, piece: usize, is_asked: bool) -> Result<bool, Fail> {
-    let size = case.shape.hash_block;
+/// Puts the last hash block of a level at its place.
+fn put_last(case: &Case, fed: &mut Fed, placed: &mut Placed, level: usize) -> Result<(), Fail> {
+    let index = fed.end_block(level)??;
+    placed.put(case, level, index, fed.block.as_slice())
+}
+
+/// Puts all hash blocks of a case at their places, as they are handed out and as they are left: whether the file then
+/// has its number of levels and its root hash.
+fn put_all(
+    alloc: Global,
+    case: &Case,
+    placed: &mut Placed,
+    piece: usize,
+    is_asked: bool,
+) -> Result<bool, Fail> {
+    let mut fed = Fed::new(alloc, case.plan.settings())?;
+    feed_all(case, &mut fed, placed, piece, is_asked)?;
+    for level in 0..case.tree.levels.len() {
+        put_last(case, &mut fed, placed, level)?;
+    }
+    Ok(fed.ask()? == case.tree.levels.len() && fed.end()?? == case.root)
+}
+
+/// An error unless a file that is fed in pieces of a length hands out, with the last hash blocks of all levels, each hash
+/// block of its tree once, and has its root hash.
+fn is_whole(alloc: Global, case: &Case, piece: usize, is_asked: bool) -> Result<(), Fail> {
+    let (row, size) = (&case.row, case.shape.hash_block);
     let expected = case.tree.on_device(alloc, size)?;
     let mut placed = Placed {
         device: vec![in alloc; 0u8; expected.len()]?,
         count: 0,
     };
-    let mut fed = Fed::new(alloc, case.plan.settings())?;
-    feed_all(case, &mut fed, &mut placed, piece, is_asked)?;
-    for level in 0..case.tree.levels.len() {
-        let index = fed.end_block(level)??;
-        placed.put(case, level, index, fed.block.as_slice())?;
-    }
     let all = expected.len() / size.max(1);
-    Ok(
-        fed.ask()? == case.tree.levels.len()
-            && fed.end()?? == case.root
-            && placed.count.saturating_add(1) == all
-            && placed.device.as_slice() == expected.as_slice()
-            && placed.device.as_slice() == built(alloc, case)?.as_slice(),
-    )
+    let whole = put_all(alloc, case, &mut placed, piece, is_asked)?
+        && placed.count.saturating_add(1) == all
+        && placed.device.as_slice() == expected.as_slice()
+        && is_written(alloc, case)?;
+    let at = format_args!("{row:?} in pieces of {piece}, {is_asked}");
+    same(at, whole, true)
 }
 
 #[test]
@@ -265,8 +235,7 @@ fn trees_of_files_are_handed_out_in_pieces(rt: HostRuntime) -> Result<(), Fail> 
         let case = Case::new(rt.alloc(), row)?;
         for &piece in &PIECES {
             for is_asked in [false, true] {
-                let whole = is_whole(rt.alloc(), &case, piece, is_asked)?;
-                same(format_args!("{row:?} in pieces of {piece}, {is_asked}"), whole, true)?;
+                is_whole(rt.alloc(), &case, piece, is_asked)?;
             }
         }
     }
@@ -278,17 +247,26 @@ fn trees_of_files_of_several_windows_are_handed_out(rt: HostRuntime) -> Result<(
     for row in &LARGER {
         let case = Case::new(rt.alloc(), row)?;
         for &piece in &LENGTHS {
-            let whole = is_whole(rt.alloc(), &case, piece, piece > 4097)?;
-            same(format_args!("{row:?} in pieces of {piece}"), whole, true)?;
+            is_whole(rt.alloc(), &case, piece, piece > 4097)?;
         }
     }
     Ok(())
 }
 
-/// Whether the last hash block of each level is that of a case, by its number and its bytes, twice; and the root hash
-/// too.
-fn has_last_blocks(fed: &mut Fed, case: &Case) -> Result<bool, Fail> {
+/// Whether the last hash block of a level is that of a case, by its number and its bytes.
+fn has_last_block(fed: &mut Fed, case: &Case, level: usize) -> Result<bool, Fail> {
     let size = case.shape.hash_block;
+    let count = match case.tree.levels.get(level) {
+        Some(blocks) => blocks.len() / size.max(1),
+        None => 0,
+    };
+    let index = fed.end_block(level)??;
+    let expected = case.tree.block(level, index as usize, size);
+    Ok(index.checked_add(1) == Some(count as u64) && fed.block.as_slice() == expected)
+}
+
+/// Whether the last hash block of each level is that of a case, twice; and the root hash too.
+fn has_last_blocks(fed: &mut Fed, case: &Case) -> Result<bool, Fail> {
     let levels = case.tree.levels.len();
     let mut is_right = fed.end()?? == case.root;
     for step in 0..levels.saturating_mul(2) {
@@ -298,43 +276,46 @@ fn has_last_blocks(fed: &mut Fed, case: &Case) -> Result<bool, Fail> {
         } else {
             step - levels
         };
-        let count = match case.tree.levels.get(level) {
-            Some(blocks) => blocks.len() / size.max(1),
-            None => 0,
-        };
-        let index = fed.end_block(level)??;
-        let expected = case.tree.block(level, index as usize, size);
-        is_right = is_right
-            && index.checked_add(1) == Some(count as u64)
-            && fed.block.as_slice() == expected;
+        is_right = has_last_block(fed, case, level)? && is_right;
     }
     Ok(is_right && fed.ask()? == levels)
 }
 
-/// Whether a file that grows has its last hash blocks at each size.
-fn grows(alloc: Global, row: &Row, sizes: &[(usize, usize)]) -> Result<bool, Fail> {
-    let mut fed = Fed::new(alloc, Case::new(alloc, row)?.plan.settings())?;
+/// Feeds all that comes after this many bytes of a case's data: whether all of it was taken.
+fn feed_after(fed: &mut Fed, case: &Case, before: usize) -> Result<bool, Fail> {
+    let mut rest = case.data.as_slice().get(before..).ok_or("it shrinks")?;
+    for _ in 0..rest.len().saturating_add(64) {
+        let answer = fed.feed(rest)??;
+        rest = rest.get(answer.taken..).ok_or("more than there are")?;
+        if answer.hash_block.is_none() {
+            break;
+        }
+    }
+    Ok(rest.is_empty())
+}
+
+/// Whether a row's file, of which this many bytes were fed, has its last hash blocks once it is fed the rest.
+fn goes_on(alloc: Global, fed: &mut Fed, row: &Row, before: usize) -> Result<bool, Fail> {
+    let case = Case::new(alloc, row)?;
+    Ok(feed_after(fed, &case, before)? && has_last_blocks(fed, &case)?)
+}
+
+/// An error unless a file that grows has its last hash blocks at each size.
+fn grows(alloc: Global, row: &Row, sizes: &[(usize, usize)]) -> Result<(), Fail> {
+    let mut fed = Fed::new(alloc, plan_of(row)?.settings())?;
     let (mut is_right, mut before) = (true, 0);
     for &size in sizes {
-        let case = Case::new(alloc, &(row.0, row.1, row.2, row.3, row.4, size))?;
-        let mut rest = case.data.as_slice().get(before..).ok_or("it shrinks")?;
-        for _ in 0..rest.len().saturating_add(64) {
-            let answer = fed.feed(rest)??;
-            rest = rest.get(answer.taken..).ok_or("more than there are")?;
-            if answer.hash_block.is_none() {
-                break;
-            }
-        }
+        let grown = (row.0, row.1, row.2, row.3, row.4, size);
+        is_right = goes_on(alloc, &mut fed, &grown, before)? && is_right;
         before = size.0;
-        is_right = is_right && rest.is_empty() && has_last_blocks(&mut fed, &case)?;
     }
-    Ok(is_right)
+    same(format_args!("{row:?}"), is_right, true)
 }
 
 #[test]
 fn files_have_their_last_hash_blocks_at_any_time(rt: HostRuntime) -> Result<(), Fail> {
     for (row, sizes) in &GROWING {
-        same(format_args!("{row:?}"), grows(rt.alloc(), row, sizes)?, true)?;
+        grows(rt.alloc(), row, sizes)?;
     }
     Ok(())
 }
@@ -344,16 +325,19 @@ fn files_have_their_last_hash_blocks_at_any_time(rt: HostRuntime) -> Result<(), 
 type Faults = [Option<FeedFault>; 3];
 
 fn faults(alloc: Global, fed: u64, closed: usize, count: usize) -> Result<Faults, Fail> {
-    let builder = FileTreeBuilder {
-        settings: small()?,
-        fed,
-        closed,
-    };
+    let mut run = Fed::new(alloc, &small()?)?;
+    (run.builder.fed, run.builder.closed) = (fed, closed);
+    run.memory.as_mut_slice().fill(0xa5);
     let piece = vec![in alloc; 7u8; count]?;
-    let mut run = Fed::of(alloc, builder)?;
+    faults_of(&mut run, piece.as_slice())
+}
+
+/// The same of one that was made, with its piece.
+fn faults_of(run: &mut Fed, piece: &[u8]) -> Result<Faults, Fail> {
+    let builder = run.builder;
     let last = [run.end()?.err(), run.end_block(1)?.err()];
     let is_kept = run.memory.iter().all(|&byte| byte == 0xa5);
-    let first = run.feed(piece.as_slice())?.err();
+    let first = run.feed(piece)?.err();
     if first.is_some() && (run.builder != builder || (last[0].is_some() && !is_kept)) {
         return Err("a refused call has changed something".into());
     }
@@ -383,7 +367,7 @@ fn builders_of_file_trees_go_by_their_numbers(rt: HostRuntime) -> Result<(), Fai
     ];
     for &((fed, closed, count), expected) in &cases {
         let found = faults(rt.alloc(), fed, closed, count)?;
-        same(format_args!("{fed}, {closed}, with {count}"), found, expected)?;
+        same(format_args!("{fed}, {closed}, {count}"), found, expected)?;
     }
     Ok(())
 }

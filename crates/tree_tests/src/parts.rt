@@ -4,14 +4,14 @@ ghost use Rattle.verity_builders.specs.Feeding.{feeding_length};
 ghost use Rattle.verity_builders.specs.Parts.{join_length};
 
 use crate::cases::{Case, Row};
-use crate::feeding::{SHAPES, last_after, next_length, write};
+use crate::feeding::{Builder, SHAPES, digest_of, feed_all};
 use crate::trees::small;
-use fixtures::same;
+use fixtures::{same, with_zeros};
 use std::alloc::Global;
 use std::test::Fail;
 use verity_hash::Digest;
 use verity_tree::{
-    Fed, FeedFault, JoinBuilder, MemoryDevice, PartBuilder, PartFault, Plan, TreeSettings,
+    Fed, FeedFault, HashBlock, JoinBuilder, MemoryDevice, PartBuilder, PartFault, Plan,
 };
 
 /// The lengths of pieces: a byte, about a block, all at once, and 0 for lengths that change.
@@ -40,64 +40,93 @@ fn join_length(plan: &Plan, level: usize) -> Result<usize, Fail>
     Ok(JoinBuilder::memory_length(plan, level))
 }
 
-/// Feeds a piece of a part, in memory of the right length.
-fn feed(builder: &mut PartBuilder, memory: &mut [u8], piece: &[u8]) -> Result<Fed, Fail> {
-    if memory.len() != part_length(&builder.plan, builder.level)? {
-        return Err("another length".into());
+impl Builder for PartBuilder {
+    fn take(&mut self, memory: &mut [u8], piece: &[u8]) -> Result<Fed, Fail> {
+        if memory.len() != part_length(&self.plan, self.level)? {
+            return Err("another length".into());
+        }
+        Ok(self.feed(memory, piece)?)
     }
-    Ok(builder.feed(memory, piece)?)
+
+    fn last(&self) -> Result<Option<HashBlock>, FeedFault> {
+        self.last_block()
+    }
+
+    fn digest(&self, memory: &mut [u8]) -> Result<Digest, Fail> {
+        if memory.len() != part_length(&self.plan, self.level)? {
+            return Err("another length".into());
+        }
+        Ok(self.end(memory)?)
+    }
 }
 
-/// The digest of a part, with memory of the right length.
-fn end(builder: &PartBuilder, memory: &mut [u8]) -> Result<Digest, Fail> {
-    if memory.len() != part_length(&builder.plan, builder.level)? {
-        return Err("another length".into());
+/// Its pieces are whole digests.
+impl Builder for JoinBuilder {
+    fn take(&mut self, memory: &mut [u8], digests: &[u8]) -> Result<Fed, Fail> {
+        if memory.len() != join_length(&self.plan, self.level)? {
+            return Err("another length".into());
+        }
+        if digests.len().checked_rem(self.plan.digest_len()) != Some(0) {
+            return Err("a part of a digest".into());
+        }
+        Ok(self.feed(memory, digests)?)
     }
-    Ok(builder.end(memory)?)
+
+    fn last(&self) -> Result<Option<HashBlock>, FeedFault> {
+        self.last_block()
+    }
+
+    fn digest(&self, memory: &mut [u8]) -> Result<Digest, Fail> {
+        if memory.len() != join_length(&self.plan, self.level)? {
+            return Err("another length".into());
+        }
+        Ok(self.end(memory)?)
+    }
+}
+
+/// The data of a part.
+fn data_of(case: &Case, level: usize, part: u64) -> Result<&[u8], Fail> {
+    let blocks = PartBuilder::blocks(&case.plan, level);
+    let size = blocks.saturating_mul(case.plan.data_block() as u64) as usize;
+    let from = size.saturating_mul(part as usize);
+    let to = from.saturating_add(size).min(case.data.len());
+    Ok(case.data.as_slice().get(from..to).ok_or("no data")?)
 }
 
 /// Builds a part in pieces of a length, with each hash block written at its place: the part's digest.
 fn build_part(
     alloc: Global,
-    plan: &Plan,
+    case: &Case,
     (level, part): (usize, u64),
-    data: &[u8],
     piece: usize,
     device: &mut MemoryDevice,
 ) -> Result<Digest, Fail> {
+    let (plan, data) = (&case.plan, data_of(case, level, part)?);
     let mut memory = vec![in alloc; 0xa5u8; part_length(plan, level)?]?;
-    let mut builder = PartBuilder::begin(plan, level, part, memory.as_mut_slice())?;
-    let (mut rest, mut last) = (data, None);
-    for step in 0..data.len().saturating_mul(2).saturating_add(8) {
-        let next = &rest[..next_length(piece, step).min(rest.len())];
-        let fed = feed(&mut builder, memory.as_mut_slice(), next)?;
-        rest = rest.get(fed.taken..).ok_or("more than there are")?;
-        last = last_after(&fed, last);
-        if builder.last_block()? != last {
-            return Err("another last hash block".into());
-        }
-        match fed.hash_block {
-            Some(block) => write(device, memory.as_slice(), &block, plan.hash_block())?,
-            None if rest.is_empty() => break,
-            None => {}
-        }
-    }
-    let first = end(&builder, memory.as_mut_slice())?;
-    if end(&builder, memory.as_mut_slice())? != first || builder.last_block()? != last {
-        return Err("another end".into());
-    }
-    Ok(first)
+    let memory = memory.as_mut_slice();
+    let mut builder = PartBuilder::begin(plan, level, part, memory)?;
+    digest_of(&mut builder, memory, data, piece, plan.hash_block(), device)
 }
 
-/// Gives digests to a join, in memory of the right length.
-fn give(builder: &mut JoinBuilder, memory: &mut [u8], digests: &[u8]) -> Result<Fed, Fail> {
-    if memory.len() != join_length(&builder.plan, builder.level)? {
-        return Err("another length".into());
+/// Builds the parts of a level, the last one first: their digests, in order.
+fn build_parts(
+    alloc: Global,
+    case: &Case,
+    level: usize,
+    piece: usize,
+    device: &mut MemoryDevice,
+) -> Result<Vec<u8>, Fail> {
+    if level > case.plan.levels() {
+        return Err("no such level".into());
     }
-    if digests.len().checked_rem(builder.plan.digest_len()) != Some(0) {
-        return Err("a part of a digest".into());
+    let parts = case.plan.count_under(level);
+    let mut digests = Vec::new(alloc);
+    for left in 0..parts {
+        let part = (level, parts - 1 - left);
+        let digest = build_part(alloc, case, part, piece, device)?;
+        digests = with_zeros(alloc, &[digest.as_bytes(), digests.as_slice()], 0)?;
     }
-    Ok(builder.feed(memory, digests)?)
+    Ok(digests)
 }
 
 /// Joins parts by their digests, of which so many come at once, with each hash block written at its place: the root
@@ -111,26 +140,13 @@ fn join_parts(
     device: &mut MemoryDevice,
 ) -> Result<Digest, Fail> {
     let mut memory = vec![in alloc; 0xa5u8; join_length(plan, level)?]?;
-    let mut builder = JoinBuilder::begin(plan, level, memory.as_mut_slice())?;
-    let (mut rest, mut last) = (digests, None);
-    for step in 0..digests.len().saturating_add(8) {
-        let next = &rest[..count.saturating_mul(plan.digest_len()).min(rest.len())];
-        let fed = give(&mut builder, memory.as_mut_slice(), next)?;
-        rest = rest.get(fed.taken..).ok_or("more than there are")?;
-        last = last_after(&fed, last);
-        if builder.last_block()? != last {
-            return Err("another last hash block".into());
-        }
-        match fed.hash_block {
-            Some(block) => write(device, memory.as_slice(), &block, plan.hash_block())?,
-            None if rest.is_empty() => break,
-            None => {}
-        }
-    }
-    if memory.len() != join_length(&builder.plan, builder.level)? {
-        return Err("another length".into());
-    }
-    Ok(builder.end(memory.as_slice())?)
+    let memory = memory.as_mut_slice();
+    let mut builder = JoinBuilder::begin(plan, level, memory)?;
+    let piece = count.saturating_mul(plan.digest_len());
+    let steps = digests.len().saturating_add(8);
+    let size = plan.hash_block();
+    feed_all(&mut builder, memory, digests, (piece, steps), size, device)?;
+    builder.digest(memory)
 }
 
 /// Whether a tree that is built from the parts of a level, the last one first, is that from plain lists.
@@ -141,51 +157,29 @@ fn is_built(
     piece: usize,
     count: usize,
 ) -> Result<bool, Fail> {
-    let plan = &case.plan;
-    if level > plan.levels() {
-        return Err("no such level".into());
-    }
-    let parts = plan.count_under(level);
-    let size = PartBuilder::blocks(plan, level).saturating_mul(plan.data_block() as u64) as usize;
-    let expected = case.tree.on_device(alloc, case.shape.hash_block)?;
-    let mut device = MemoryDevice::new(vec![in alloc; 0u8; case.shape.hash_block]?);
-    let mut digests = Vec::new(alloc);
-    for left in 0..parts {
-        let part = parts - 1 - left;
-        let from = size.saturating_mul(part as usize);
-        let to = from.saturating_add(size).min(case.data.len());
-        let data = case.data.as_slice().get(from..to).ok_or("no data")?;
-        let digest = build_part(alloc, plan, (level, part), data, piece, &mut device)?;
-        let mut longer = Vec::from_slice(alloc, digest.as_bytes())?;
-        longer.extend_from_slice(digests.as_slice())?;
-        digests = longer;
-    }
-    let root = join_parts(alloc, plan, level, digests.as_slice(), count, &mut device)?;
-    Ok(root == case.root && device.bytes() == expected.as_slice())
+    let mut device = case.device(alloc)?;
+    let digests = build_parts(alloc, case, level, piece, &mut device)?;
+    let digests = digests.as_slice();
+    let root = join_parts(alloc, &case.plan, level, digests, count, &mut device)?;
+    Ok(root == case.root && case.is_on(alloc, &device)?)
 }
 
-/// The first level, of all and the one above the top, at whose parts a row's tree isn't built, if there is one.
-fn level_not_built(
-    alloc: Global,
-    row: &Row,
-    piece: usize,
-    count: usize,
-) -> Result<Option<usize>, Fail> {
+/// An error unless a row's tree is built from the parts of each level, and from that of the one above the top.
+fn each_level_is_built(alloc: Global, row: &Row, piece: usize, count: usize) -> Result<(), Fail> {
     let case = Case::new(alloc, row)?;
     for level in 0..case.plan.levels().saturating_add(1) {
-        if !is_built(alloc, &case, level, piece, count)? {
-            return Ok(Some(level));
-        }
+        let built = is_built(alloc, &case, level, piece, count)?;
+        let at = format_args!("level {level} of {row:?}, {piece} and {count} at once");
+        same(at, built, true)?;
     }
-    Ok(None)
+    Ok(())
 }
 
 #[test]
 fn parts_are_built_in_pieces(rt: HostRuntime) -> Result<(), Fail> {
     for row in &SHAPES {
         for &piece in &PIECES {
-            let failed = level_not_built(rt.alloc(), row, piece, 1000)?;
-            same(format_args!("{row:?} in pieces of {piece}"), failed, None)?;
+            each_level_is_built(rt.alloc(), row, piece, 1000)?;
         }
     }
     Ok(())
@@ -195,29 +189,37 @@ fn parts_are_built_in_pieces(rt: HostRuntime) -> Result<(), Fail> {
 fn parts_are_joined(rt: HostRuntime) -> Result<(), Fail> {
     for row in &SHAPES {
         for &count in &COUNTS {
-            let failed = level_not_built(rt.alloc(), row, 4096, count)?;
-            same(format_args!("{row:?}, {count} digests at once"), failed, None)?;
+            each_level_is_built(rt.alloc(), row, 4096, count)?;
         }
     }
     Ok(())
 }
 
+/// Why a part above 257 blocks can't be begun.
+fn fault_of(alloc: Global, level: usize, part: u64) -> Result<Option<PartFault>, Fail> {
+    let plan = Plan::for_blocks(&small()?, 257, 1)?;
+    let mut memory = vec![in alloc; 0u8; part_length(&plan, level)?]?;
+    Ok(PartBuilder::begin(&plan, level, part, memory.as_mut_slice()).err())
+}
+
+const NO_PART: Option<PartFault> = Some(PartFault::Part);
+
+/// A level, a part, and why it can't be begun.
+const FAULTS: [(usize, u64, Option<PartFault>); 7] = [
+    (0, 256, None),
+    (0, 257, NO_PART),
+    (1, 16, None),
+    (1, 17, NO_PART),
+    (3, 0, None),
+    (3, 1, NO_PART),
+    (3, u64::MAX, NO_PART),
+];
+
 #[test]
 fn parts_that_are_not_there_are_refused(rt: HostRuntime) -> Result<(), Fail> {
-    let plan = Plan::for_blocks(&small()?, 257, 1)?;
-    let cases = [
-        (0, 256, None),
-        (0, 257, Some(PartFault::Part)),
-        (1, 16, None),
-        (1, 17, Some(PartFault::Part)),
-        (3, 0, None),
-        (3, 1, Some(PartFault::Part)),
-        (3, u64::MAX, Some(PartFault::Part)),
-    ];
-    for &(level, part, expected) in &cases {
-        let mut memory = vec![in rt.alloc(); 0u8; part_length(&plan, level)?]?;
-        let fault = PartBuilder::begin(&plan, level, part, memory.as_mut_slice()).err();
-        same(format_args!("part {part} of level {level}"), fault, expected)?;
+    for &(level, part, expected) in &FAULTS {
+        let fault = fault_of(rt.alloc(), level, part)?;
+        same(format_args!("part {part} of {level}"), fault, expected)?;
     }
     Ok(())
 }

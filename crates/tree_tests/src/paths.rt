@@ -1,7 +1,8 @@
 //! Data blocks that are checked by their paths: 257 data blocks. All blocks have 512 bytes, so level 2 stands at byte
 //! 512 of the device, level 1 at 1024 and level 0 at 2048. Expected trees are made with `sha2`.
+use crate::cases::root_of;
 use crate::trees::{small, small_tree};
-use fixtures::{Shape, data, flip, same, with_zeros};
+use fixtures::{Shape, Tree, data, flip, same, with_zeros};
 use std::alloc::{AllocError, Global};
 use std::test::Fail;
 use verity_hash::{Algorithm, Digest};
@@ -30,6 +31,18 @@ fn block_of(bytes: &[u8], number: usize) -> &[u8] {
     bytes.chunks(512).nth(number).unwrap_or(&[])
 }
 
+/// The path of data block `i`. Level 0 of the tree begins with block 4 of the device, level 1 with block 2, level 2 with
+/// block 1.
+fn path_of(alloc: Global, tree: &Tree, i: usize) -> Result<Vec<u8>, AllocError> {
+    let device = tree.on_device(alloc, 512)?;
+    let path = [
+        block_of(device.as_slice(), (i / 16).saturating_add(4)),
+        block_of(device.as_slice(), (i / 256).saturating_add(2)),
+        block_of(device.as_slice(), 1),
+    ];
+    with_zeros(alloc, &path, 0)
+}
+
 /// A data block with its path, and the root hash.
 #[derive(Drop)]
 struct Given {
@@ -39,21 +52,14 @@ struct Given {
 }
 
 impl Given {
-    /// Data block `i` with its path. Level 0 of the tree begins with block 4 of the device, level 1 with block 2, level
-    /// 2 with block 1.
+    /// Data block `i` with its path.
     fn new(alloc: Global, i: usize) -> Result<Given, Fail> {
         let data = data(alloc, 131_584)?;
         let tree = small_tree(alloc, data.as_slice(), 3)?;
-        let device = tree.on_device(alloc, 512)?;
-        let path = [
-            block_of(device.as_slice(), (i / 16).saturating_add(4)),
-            block_of(device.as_slice(), (i / 256).saturating_add(2)),
-            block_of(device.as_slice(), 1),
-        ];
         Ok(Given {
+            root: root_of(&tree)?,
+            path: path_of(alloc, &tree, i)?,
             block: Vec::from_slice(alloc, block_of(data.as_slice(), i))?,
-            path: with_zeros(alloc, &path, 0)?,
-            root: Digest::from_bytes(tree.root.as_slice()).ok_or("a root hash")?,
         })
     }
 
@@ -72,13 +78,10 @@ impl Given {
     }
 }
 
+type Verdict = Result<(), PathFault>;
+
 /// The result for data block `asked`, if it is given data block `i` with its path and a change.
-fn judged(
-    alloc: Global,
-    i: usize,
-    change: Change,
-    asked: u64,
-) -> Result<Result<(), PathFault>, Fail> {
+fn judged(alloc: Global, i: usize, change: Change, asked: u64) -> Result<Verdict, Fail> {
     let plan = Plan::for_blocks(&small()?, 257, 1)?;
     let mut given = Given::new(alloc, i)?;
     given.change(change)?;
@@ -87,7 +90,7 @@ fn judged(
 }
 
 /// The number of a data block, what is changed, the number that is asked for, and the result.
-const CASES: [(usize, Change, u64, Result<(), PathFault>); 24] = [
+const CASES: [(usize, Change, u64, Verdict); 24] = [
     (0, Change::Nothing, 0, Ok(())),
     (15, Change::Nothing, 15, Ok(())),
     (16, Change::Nothing, 16, Ok(())),
@@ -119,19 +122,25 @@ const CASES: [(usize, Change, u64, Result<(), PathFault>); 24] = [
 fn paths_are_judged(rt: HostRuntime) -> Result<(), Fail> {
     for &(i, change, asked, expected) in &CASES {
         let result = judged(rt.alloc(), i, change, asked)?;
-        same(format_args!("{change:?}, {i} for {asked}"), result, expected)?;
+        let at = format_args!("{change:?}, {i} for {asked}");
+        same(at, result, expected)?;
     }
     Ok(())
 }
 
-/// The result if these bytes are given for the last block of a file of a block of 4096 zeros and an `a`.
-fn judged_last(alloc: Global, given: &[u8]) -> Result<Result<(), PathFault>, Fail> {
-    let page = TreeSettings::fsverity(Algorithm::Sha256, &[], 4096)?;
-    let plan = Plan::for_bytes(&page, 4097, 0)?;
+/// The tree of a file of a block of 4096 zeros and an `a`.
+fn file_tree(alloc: Global) -> Result<Tree, AllocError> {
     let shape = Shape::new(alloc, Algorithm::Sha256, (4096, 4096), (128, 32));
     let file = with_zeros(alloc, &[&[0; 4096], b"a"], 0)?;
-    let tree = shape.tree(alloc, file.as_slice(), 1)?;
-    let root = Digest::from_bytes(tree.root.as_slice()).ok_or("a root hash")?;
+    shape.tree(alloc, file.as_slice(), 1)
+}
+
+/// The result if these bytes are given for the last block of that file.
+fn judged_last(alloc: Global, given: &[u8]) -> Result<Verdict, Fail> {
+    let page = TreeSettings::fsverity(Algorithm::Sha256, &[], 4096)?;
+    let plan = Plan::for_bytes(&page, 4097, 0)?;
+    let tree = file_tree(alloc)?;
+    let root = root_of(&tree)?;
     Ok(check_block(&plan, 1, given, tree.block(0, 0, 4096), &root))
 }
 
@@ -141,5 +150,6 @@ fn the_last_block_of_a_file_comes_filled(rt: HostRuntime) -> Result<(), Fail> {
     let last = with_zeros(rt.alloc(), &[b"a"], 4096)?;
     let whole = judged_last(rt.alloc(), last.as_slice())?;
     let cut = judged_last(rt.alloc(), b"a")?;
-    same("the whole and the cut", (whole, cut), (Ok(()), Err(PathFault::Length)))
+    same("the whole one", whole, Ok(()))?;
+    same("the cut one", cut, Err(PathFault::Length))
 }

@@ -4,7 +4,7 @@ use crate::cases::salted_shape;
 use fixtures::{Shape, data, same};
 use std::alloc::{AllocError, Global};
 use std::test::Fail;
-use verity_hash::{Algorithm, SaltRule, salted, salted_rows};
+use verity_hash::{Algorithm, Digest, SaltRule, salted, salted_rows};
 
 /// The message `abc`, as a salt and a block, and its digest.
 type Vector = (
@@ -88,15 +88,21 @@ const SALTS: [usize; 10] = [0, 1, 32, 63, 64, 65, 127, 128, 129, 255];
 /// blocks with each, from one to eight.
 const SIZES: [usize; 12] = [0, 1, 55, 56, 63, 64, 111, 112, 119, 128, 512, 1024];
 
-/// The first of `count` blocks of a size whose salted hash isn't that of the plain list.
-fn wrong_row(
+/// Whether a digest is that of the plain list for a block.
+fn is_right(alloc: Global, shape: &Shape, block: &[u8], digest: &Digest) -> Result<bool, Fail> {
+    let expected = shape.digest(alloc, block)?;
+    Ok(digest.as_bytes() == expected.as_slice())
+}
+
+/// An error unless each of `count` blocks of a size has the salted hash of the plain list.
+fn rows_are_hashed(
     alloc: Global,
     rule: SaltRule,
     salt: &[u8],
     shape: &Shape,
     size: usize,
     count: usize,
-) -> Result<Option<usize>, Fail> {
+) -> Result<(), Fail> {
     let rows = data(alloc, size.saturating_mul(count))?;
     if count == 0 || count > 8 || rows.len() != size.saturating_mul(count) {
         return Err("one to eight rows".into());
@@ -105,41 +111,32 @@ fn wrong_row(
     for (r, digest) in digests.iter().take(count).enumerate() {
         let from = r.saturating_mul(size);
         let block = rows.get(from..from.saturating_add(size)).unwrap_or(&[]);
-        let expected = shape.digest(alloc, block)?;
-        if digest.as_bytes() != expected.as_slice() {
-            return Ok(Some(r));
-        }
+        let right = is_right(alloc, shape, block, digest)?;
+        let at = format_args!("block {r} of {count} of {size} bytes, {shape:?}");
+        same(at, right, true)?;
     }
-    Ok(None)
+    Ok(())
 }
 
-/// The first salt and size whose rows have a wrong hash by a function and a rule, with the number of blocks and the
-/// block.
-fn wrong_rows(
-    alloc: Global,
-    algorithm: Algorithm,
-    rule: SaltRule,
-) -> Result<Option<(usize, usize, usize, usize)>, Fail> {
+/// An error unless the rows of each salt and size have the right hashes by a function and a rule.
+fn all_are_hashed(alloc: Global, algorithm: Algorithm, rule: SaltRule) -> Result<(), Fail> {
     let salts = data(alloc, 255)?;
     for (turn, len) in SALTS.iter().enumerate() {
         let salt = salts.get(..*len).ok_or("a salt")?;
         let shape = salted_shape(alloc, algorithm, rule, salt)?;
         for (i, size) in SIZES.iter().enumerate() {
             let count = (turn.saturating_add(i) % 8).saturating_add(1);
-            if let Some(r) = wrong_row(alloc, rule, salt, &shape, *size, count)? {
-                return Ok(Some((*len, *size, count, r)));
-            }
+            rows_are_hashed(alloc, rule, salt, &shape, *size, count)?;
         }
     }
-    Ok(None)
+    Ok(())
 }
 
 #[test]
 fn each_of_one_to_eight_blocks_has_its_salted_hash(rt: HostRuntime) -> Result<(), Fail> {
     for algorithm in &ALGORITHMS {
         for rule in &RULES {
-            let wrong = wrong_rows(rt.alloc(), *algorithm, *rule)?;
-            same(format_args!("{algorithm:?}, {rule:?}"), wrong, None)?;
+            all_are_hashed(rt.alloc(), *algorithm, *rule)?;
         }
     }
     Ok(())

@@ -92,7 +92,7 @@ impl Sweep {
     /// the data ends within it. This many reads come before it, and it takes this many.
     fn at_block(&self, i: usize, most: usize, before: usize, reads: usize) -> [Trial; 3] {
         let closed = self.order.iter().filter(|closed| closed.2 <= i).count();
-        let rest = self.after(i);
+        let (rest, len) = (self.after(i), self.case.data.len());
         let first = Trial {
             failing: (before.saturating_add(1), 0),
             rest,
@@ -108,12 +108,7 @@ impl Sweep {
         };
         let end = Trial {
             failing: (0, 0),
-            given: self
-                .case
-                .data
-                .len()
-                .saturating_sub(rest)
-                .saturating_add(i % 3),
+            given: len.saturating_sub(rest).saturating_add(i % 3),
             rest: 0,
             result: Err(BuildFault::SourceShort(i as u64)),
             ..first
@@ -134,16 +129,12 @@ impl Sweep {
             }
             before = before.saturating_add(reads);
         }
-        for (closed, (level, index, read)) in self.order.iter().enumerate() {
-            let (level, index) = (*level, *index);
+        for (closed, &(level, block, read)) in self.order.iter().enumerate() {
             let call = closed.saturating_add(1);
             trials.push(Trial {
                 failing: (0, call),
-                rest: self.after(*read),
-                result: Err(BuildFault::DeviceFailed {
-                    level,
-                    block: index,
-                }),
+                rest: self.after(read),
+                result: Err(BuildFault::DeviceFailed { level, block }),
                 closed,
                 calls: call,
                 ..self.whole()
@@ -155,21 +146,14 @@ impl Sweep {
 
     /// What a device holds, empty at first, after this many hash blocks have closed.
     fn device_after(&self, alloc: Global, closed: usize) -> Result<Vec<u8>, AllocError> {
-        let size = self.case.shape.hash_block;
+        let (tree, size) = (&self.case.tree, self.case.shape.hash_block);
         let mut device = Vec::new(alloc);
         for (level, index, _) in self.order.iter().take(closed) {
             let (level, index) = (*level, *index as usize);
-            let at = self
-                .case
-                .tree
-                .offset_of(level, index, size)
-                .saturating_add(size);
+            let at = tree.offset_of(level, index, size).saturating_add(size);
             let end = at.saturating_add(size).max(device.len());
             device.resize(end, 0)?;
-            lay(
-                &mut device,
-                &[(at, self.case.tree.block(level, index, size))],
-            );
+            lay(&mut device, &[(at, tree.block(level, index, size))]);
         }
         Ok(device)
     }

@@ -6,7 +6,7 @@ use std::alloc::{AllocError, Global};
 use std::test::Fail;
 use verity_hash::Algorithm;
 use verity_tree::{
-    HashType, MemoryDevice, MemorySource, Plan, SettingFault, Store, TreeSettings, build, compare,
+    HashType, MemorySource, Plan, SettingFault, Store, TreeSettings, build, compare,
     root_by_levels, root_only,
 };
 
@@ -23,7 +23,8 @@ pub fn small_tree(alloc: Global, data: &[u8], levels: usize) -> Result<Tree, All
 #[test]
 fn a_plan_has_numbers(_rt: HostRuntime) -> Result<(), Fail> {
     let plan = Plan::for_blocks(&small()?, 257, 1)?;
-    same("257 blocks", (plan.fan(), plan.levels(), plan.end()), (16, 3, 21))
+    let numbers = (plan.fan(), plan.levels(), plan.end());
+    same("257 blocks", numbers, (16, 3, 21))
 }
 
 /// The largest block size of dm-verity.
@@ -85,8 +86,7 @@ const SHAPES: [Row; 14] = [
 /// Whether a tree is built as from plain lists and found to be that of its data.
 fn is_built(alloc: Global, case: &Case) -> Result<bool, Fail> {
     let mut store = Store::new(alloc, &case.plan)?;
-    let expected = case.tree.on_device(alloc, case.shape.hash_block)?;
-    let mut device = MemoryDevice::new(vec![in alloc; 0u8; case.shape.hash_block]?);
+    let mut device = case.device(alloc)?;
     let mut source = MemorySource::new(case.data.as_slice());
     let mut again = MemorySource::new(case.data.as_slice());
     if !store.fits(&case.plan) {
@@ -98,7 +98,7 @@ fn is_built(alloc: Global, case: &Case) -> Result<bool, Fail> {
         built == Ok(case.root)
             && verdict == Ok(())
             && source.rest().is_empty()
-            && device.bytes() == expected.as_slice(),
+            && case.is_on(alloc, &device)?,
     )
 }
 

@@ -16,7 +16,7 @@ type Held = [u8; MOST_READS];
 
 /// A source whose data block `i` has bytes that are all `i + 1`. It records what stands in each buffer, and ends if
 /// that isn't a whole data block.
-#[derive(Drop)]
+#[derive(Clone, Copy, PartialEq)]
 struct Watcher {
     size: usize,
     held: Held,
@@ -66,24 +66,24 @@ impl Source for Watcher {
     }
 }
 
-/// What stands in the buffers if data blocks are read in these batches, each into a row of its own.
-fn held_in(batches: &[usize]) -> Held {
-    let mut held = [0; MOST_READS];
+/// A source whose data blocks of a size were read in these batches, each into a row of its own.
+fn read_in(size: usize, batches: &[usize]) -> Watcher {
+    let mut watcher = Watcher::new(size);
     let mut rows = [0_u8; 8];
-    let mut read = 0_usize;
     for &count in batches {
         for row in 0..count {
             let Some(last) = rows.get_mut(row) else {
-                return held;
+                return watcher;
             };
-            if let Some(place) = held.get_mut(read) {
+            let read = watcher.reads;
+            if let Some(place) = watcher.held.get_mut(read) {
                 *place = *last;
             }
-            read = read.saturating_add(1);
-            *last = (read % 256) as u8;
+            watcher.reads = read.saturating_add(1);
+            *last = (watcher.reads % 256) as u8;
         }
     }
-    held
+    watcher
 }
 
 /// The format, by its rule for salts, and the function; the sizes of a data block and a hash block; and how many data
@@ -127,45 +127,29 @@ const FEWEST: [Batches; 4] = [
     (BEFORE, SHA256, (512, 512), &[1]),
 ];
 
-/// A pass that writes a tree, one that makes the root hash alone, and one that compares the tree: whether they agree,
-/// and what stood in the buffers of each.
-type Passes = (bool, [(Held, usize); 3]);
-
-fn passes(alloc: Global, plan: &Plan) -> Result<Passes, Fail> {
+/// Whether a pass that writes a tree, one that makes the root hash alone, and one that compares the tree agree, each over
+/// its source.
+fn agree(alloc: Global, plan: &Plan, sources: &mut [Watcher; 3]) -> Result<bool, Fail> {
     let mut store = Store::new(alloc, plan)?;
     if !store.fits(plan) {
         return Err("a store".into());
     }
     let mut device = MemoryDevice::new(Vec::new(alloc));
-    let mut sources = [
-        Watcher::new(plan.data_block()),
-        Watcher::new(plan.data_block()),
-        Watcher::new(plan.data_block()),
-    ];
     let made = build(plan, &mut store, &mut sources[0], &mut device);
     let root: Digest = made.map_err(|_| "a root hash")?;
     let alone = root_only(plan, &mut store, &mut sources[1]);
     let verdict = compare(plan, &mut store, &mut sources[2], &mut device, &root);
-    let [built, rooted, compared] = &sources;
-    let read = [
-        (built.held, built.reads),
-        (rooted.held, rooted.reads),
-        (compared.held, compared.reads),
-    ];
-    Ok((alone == Ok(root) && verdict == Ok(()), read))
+    Ok(alone == Ok(root) && verdict == Ok(()))
 }
 
 /// Whether each pass over a case's data blocks reads them in its batches, and they agree.
 fn is_read(alloc: Global, case: &Batches) -> Result<bool, Fail> {
     let (rule, algorithm, sizes, batches) = *case;
-    let mut blocks = 0_usize;
-    for &count in batches {
-        blocks = blocks.saturating_add(count);
-    }
     let settings = settings(rule, algorithm, &[], sizes)?;
-    let plan = Plan::for_blocks(&settings, blocks as u64, 0)?;
-    let expected = (held_in(batches), blocks);
-    Ok(passes(alloc, &plan)? == (true, [expected; 3]))
+    let expected = read_in(settings.data_block() as usize, batches);
+    let plan = Plan::for_blocks(&settings, expected.reads as u64, 0)?;
+    let mut sources = [Watcher::new(expected.size); 3];
+    Ok(agree(alloc, &plan, &mut sources)? && sources == [expected; 3])
 }
 
 /// An error for the first case whose data blocks aren't read in its batches, if there is one.
