@@ -1,5 +1,5 @@
 //! Digest of files, and of one file with output files.
-use crate::run_result::RunResult;
+use crate::run_result::{RunResult, ends_whole};
 use fixtures::zeros::{DATA_SIZE, TREE_SIZE, tree};
 use fixtures::{DESCRIPTOR_SIZE, FILE_SIZE_AT, ROOT_AT, block};
 use fsverity::{DigestOptions, Form, MemoryOpener, digest_settings, run_digest, run_digest_to};
@@ -62,8 +62,12 @@ fn digest(alloc: Global) -> RunResult {
         &mut made.out,
         &mut made.msgs,
     );
-    let is_refused = is_out_of_memory(status, made.msgs.as_slice());
-    let out = made.out.as_slice();
+    digest_result(status, made.out.as_slice(), made.msgs.as_slice())
+}
+
+/// How a run that digests the file twice ended, by what it answered and wrote.
+fn digest_result(status: u8, out: &[u8], msgs: &[u8]) -> RunResult {
+    let is_refused = is_out_of_memory(status, msgs);
     let line = LINE.as_bytes();
     if status == 0 && out.strip_prefix(line) == Some(line) {
         RunResult::Whole
@@ -110,11 +114,12 @@ fn digest_to(alloc: Global) -> RunResult {
         &mut made.out,
         &mut made.msgs,
     );
-    let left = (
-        source.rest().len(),
-        made.tree.bytes(),
-        made.descriptor.as_slice(),
-    );
+    digest_to_result(status, source.rest().len(), &made)
+}
+
+/// How a run with both output files ended, by what it answered, how many bytes it didn't read, and what it wrote.
+fn digest_to_result(status: u8, rest: usize, made: &Prepared) -> RunResult {
+    let left = (rest, made.tree.bytes(), made.descriptor.as_slice());
     let is_written = left == (0, tree().as_slice(), descriptor().as_slice());
     let is_as_before = left == (DATA_SIZE, [77; TREE_SIZE].as_slice(), b"".as_slice());
     let is_refused = is_out_of_memory(status, made.msgs.as_slice()) && made.out.is_empty();
@@ -157,15 +162,15 @@ fn digest_nothing(alloc: Global) -> RunResult {
 
 #[test]
 fn digest_is_whole(rt: HostRuntime) {
-    assert_eq!(rt; digest(rt.alloc()), RunResult::Whole);
+    ends_whole(&rt, digest(rt.alloc()));
 }
 
 #[test]
 fn digest_with_output_files_is_whole(rt: HostRuntime) {
-    assert_eq!(rt; digest_to(rt.alloc()), RunResult::Whole);
+    ends_whole(&rt, digest_to(rt.alloc()));
 }
 
 #[test]
 fn digest_of_no_file_is_whole(rt: HostRuntime) {
-    assert_eq!(rt; digest_nothing(rt.alloc()), RunResult::Whole);
+    ends_whole(&rt, digest_nothing(rt.alloc()));
 }

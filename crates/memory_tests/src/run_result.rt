@@ -1,4 +1,5 @@
 //! How a run ended in which a request for memory may have been refused.
+use std::process::Abort;
 
 /// Each test expects `Whole`, and ends so if no request is refused.
 #[derive(Debug, Drop, PartialEq)]
@@ -15,4 +16,9 @@ pub enum RunResult {
     NoMessage,
     /// Anything else.
     Wrong,
+}
+
+/// Ends a test, which fails if its run wasn't whole: `tests/memory.sh` reads how the run ended from the assertion.
+pub fn ends_whole<R: Abort>(rt: &R, found: RunResult) {
+    assert_eq!(rt; found, RunResult::Whole);
 }

@@ -1,5 +1,5 @@
 //! Format, dump and verify of an image of 257 blocks, with a superblock and without.
-use crate::run_result::RunResult;
+use crate::run_result::{RunResult, ends_whole};
 use fixtures::zeros::{DATA_SIZE, ROOT, TREE_SIZE, tree};
 use fixtures::{SUPERBLOCK_SIZE, block, flip, superblock};
 use std::alloc::{AllocError, Global};
@@ -113,7 +113,19 @@ fn format(
         &mut made.out,
         &mut made.msgs,
     );
-    let left = (source.rest().len(), made.device.bytes());
+    format_result(status, source.rest().len(), &made, before, after, uuid)
+}
+
+/// How a run of format ended, by what it answered, how many bytes it didn't read, and what it wrote.
+fn format_result(
+    status: u8,
+    rest: usize,
+    made: &Prepared,
+    before: &[u8],
+    after: &[u8],
+    uuid: &str,
+) -> RunResult {
+    let left = (rest, made.device.bytes());
     let words = ["Root hash:       \t", ROOT, "\n"];
     let is_told = is_report(made.out.as_slice(), uuid, &words);
     let is_refused = is_out_of_memory(status, made.msgs.as_slice()) && made.out.is_empty();
@@ -179,7 +191,7 @@ const STORED: VerifyInput<'static> = VerifyInput::Stored {
 fn format_is_whole(rt: HostRuntime) -> Result<(), Fail> {
     let settings = settings_of(&OPTIONS, DATA_SIZE as u64, None)?;
     let found = format(rt.alloc(), &settings, &[], &hash_device(), UUID);
-    assert_eq!(rt; found, RunResult::Whole);
+    ends_whole(&rt, found);
     Ok(())
 }
 
@@ -187,19 +199,19 @@ fn format_is_whole(rt: HostRuntime) -> Result<(), Fail> {
 fn format_of_a_tree_alone_is_whole(rt: HostRuntime) -> Result<(), Fail> {
     let settings = settings_of(&BARE, DATA_SIZE as u64, None)?;
     let found = format(rt.alloc(), &settings, &[77; TREE_SIZE], &tree(), "-");
-    assert_eq!(rt; found, RunResult::Whole);
+    ends_whole(&rt, found);
     Ok(())
 }
 
 #[test]
 fn dump_is_whole(rt: HostRuntime) {
-    assert_eq!(rt; dump(rt.alloc()), RunResult::Whole);
+    ends_whole(&rt, dump(rt.alloc()));
 }
 
 #[test]
 fn verify_is_whole(rt: HostRuntime) {
     let found = verify(rt.alloc(), &STORED, &hash_device(), (0, b""));
-    assert_eq!(rt; found, RunResult::Whole);
+    ends_whole(&rt, found);
 }
 
 #[test]
@@ -211,7 +223,7 @@ fn verify_of_a_tree_alone_is_whole(rt: HostRuntime) -> Result<(), Fail> {
     let settings = settings_of(&raw, DATA_SIZE as u64, None)?;
     let input = VerifyInput::Given(&settings);
     let found = verify(rt.alloc(), &input, &tree(), (0, b""));
-    assert_eq!(rt; found, RunResult::Whole);
+    ends_whole(&rt, found);
     Ok(())
 }
 
@@ -221,5 +233,5 @@ fn verify_of_a_changed_device_is_whole(rt: HostRuntime) {
     flip(&mut device, DEVICE_SIZE - 1);
     let text = b"Verification failed: level 0 block 16, spare bytes.\n".as_slice();
     let found = verify(rt.alloc(), &STORED, &device, (2, text));
-    assert_eq!(rt; found, RunResult::Whole);
+    ends_whole(&rt, found);
 }
