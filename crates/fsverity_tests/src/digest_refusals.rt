@@ -1,6 +1,9 @@
 //! What the program fsverity refuses, which leaves all files as they are: words, options, and names of files.
 use crate::program_runs::{TWO_READ, disk, output_of, run};
+use fixtures::{RunOutput, same};
 use memory_runtime::{Call, MemoryRuntime};
+use std::alloc::Global;
+use std::io;
 use std::test::Fail;
 
 /// The text of a command line without a command. It ends with the usage.
@@ -111,18 +114,21 @@ Usage: fsverity digest [--hash-alg NAME] [--block-size BYTES] [--salt HEX]
     ),
 ];
 
+/// A run, what it opens, and how often it writes.
+fn run_with_calls(alloc: Global, words: &str) -> io::Result<(RunOutput, String, u64)> {
+    let disk = disk(alloc)?;
+    let output = run(alloc, &disk, words);
+    Ok((output, disk.opened()?, disk.calls(Call::Write)?))
+}
+
 /// No file changes: only a new one is opened to be written, and nothing is written to it.
 #[test]
 fn refusals_change_no_file(rt: HostRuntime) -> Result<(), Fail> {
-    let alloc = rt.alloc();
     for &(words, text, opened) in &REFUSED {
-        let disk = disk(alloc)?;
-        let output = run(alloc, &disk, words);
+        let (output, all, writes) = run_with_calls(rt.alloc(), words)?;
         let status = if opened.is_empty() { 2 } else { 1 };
         let differs = output.differs(status, b"", text.as_bytes());
-        let all = disk.opened()?;
-        let found = (differs, all.as_str(), disk.calls(Call::Write)?);
-        assert_eq!(rt; found, (None, opened, 0), "at {words}");
+        same(words, (differs, all.as_str(), writes), (None, opened, 0))?;
     }
     Ok(())
 }
@@ -135,6 +141,5 @@ fn a_word_that_is_not_utf8_is_refused(rt: HostRuntime) -> Result<(), Fail> {
     runtime.last_word = Some(b"\xff");
     let text = b"error: argument 2 is not UTF-8: \\xff\n";
     let differs = output_of(alloc, &runtime).differs(2, b"", text);
-    assert_eq!(rt; (differs, disk.opened()?.as_str()), (None, ""));
-    Ok(())
+    same("argument 2", (differs, disk.opened()?.as_str()), (None, ""))
 }

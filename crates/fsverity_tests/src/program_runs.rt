@@ -1,6 +1,6 @@
 //! The program fsverity over a runtime in memory, on a disk of some files: lengths that a file is said to have, and a
 //! run with each option, over a file and over a block device.
-use fixtures::{RunOutput, Shape, data, descriptor, with_zeros};
+use fixtures::{RunOutput, Shape, data, descriptor, same, with_zeros};
 use fsverity::{ShownProgress, run_program};
 use memory_runtime::{Disk, Kind, MemoryRuntime};
 use sha2::{Digest as Hasher, Sha512};
@@ -51,18 +51,24 @@ pub fn disk(alloc: Global) -> io::Result<Disk> {
     disk_without(alloc, 0)
 }
 
-/// A disk with the files, but without so many of the places that are tried first for a placeholder.
-pub fn disk_without(alloc: Global, places: usize) -> io::Result<Disk> {
-    let disk = Disk::new(alloc);
-    for &(name, kind) in PLACES.iter().skip(places) {
-        disk.make_kind(name, kind, Vec::new(alloc))?;
-    }
+/// Makes the files of a disk, and their further names.
+fn fill(alloc: Global, disk: &Disk) -> io::Result<()> {
     for &(name, kind, length) in &FILES {
         disk.make_kind(name, kind, data(alloc, length)?)?;
     }
     for &(name, other) in &LINKS {
         disk.link(name, other)?;
     }
+    Ok(())
+}
+
+/// A disk with the files, but without so many of the places that are tried first for a placeholder.
+pub fn disk_without(alloc: Global, places: usize) -> io::Result<Disk> {
+    let disk = Disk::new(alloc);
+    for &(name, kind) in PLACES.iter().skip(places) {
+        disk.make_kind(name, kind, Vec::new(alloc))?;
+    }
+    fill(alloc, &disk)?;
     Ok(disk)
 }
 
@@ -108,7 +114,7 @@ fn a_length_is_taken_as_it_is_said(rt: HostRuntime) -> Result<(), Fail> {
             disk.end_at("three", end)?;
             let output = run(alloc, &disk, words);
             let differs = output.differs(1, b"", message.as_bytes());
-            assert_eq!(rt; differs, None, "at {words}, {end}");
+            same(format_args!("{words}, {end}"), differs, None)?;
         }
     }
     Ok(())
@@ -142,24 +148,47 @@ const WITH_EACH_OPTION: [(&str, bool, &str); 4] = [
     ("", false, "block_device"),
 ];
 
+/// The line with the formatted digest of a descriptor alone.
+fn formatted_line(alloc: Global, descriptor: &[u8]) -> Result<String, AllocError> {
+    let digits = hex::encode(alloc, Sha512::digest(descriptor).as_slice())?;
+    format!(in alloc; "465356657269747902004000{digits}\n")
+}
+
+/// The words of a command line with each option, for an input file and with these options of output files.
+fn words_with(alloc: Global, name: &str, outputs: &str) -> Result<String, AllocError> {
+    format!(in alloc;
+        "fsverity digest --hash-alg=sha512 --block-size 0128 --salt abCD {name} --compact --for-builtin-sig{outputs}"
+    )
+}
+
+/// What of a run isn't as expected, and whether it has output files and they hold these bytes.
+fn outcome(
+    alloc: Global,
+    words: &str,
+    line: &str,
+    has_outputs: bool,
+    (tree, descriptor): (&[u8], &[u8]),
+) -> io::Result<(Option<&'static str>, bool)> {
+    let disk = disk(alloc)?;
+    let differs = run(alloc, &disk, words).differs(0, line.as_bytes(), b"");
+    let is_made = has_outputs
+        && disk.bytes_of("tree")?.as_slice() == tree
+        && disk.bytes_of("made")?.as_slice() == descriptor;
+    Ok((differs, is_made))
+}
+
 /// The tree file, the descriptor file, and the line with the formatted digest alone. Of a block device the system says
 /// that its length is 0; it is found by seeking to its end.
 #[test]
 fn each_option_counts(rt: HostRuntime) -> Result<(), Fail> {
     let alloc = rt.alloc();
-    let expected = made_of_three(alloc)?;
-    let digits = hex::encode(alloc, Sha512::digest(expected.1.as_slice()).as_slice())?;
-    let line = format!(in alloc; "465356657269747902004000{digits}\n")?;
+    let (tree, descriptor) = made_of_three(alloc)?;
+    let line = formatted_line(alloc, descriptor.as_slice())?;
+    let made = (tree.as_slice(), descriptor.as_slice());
     for &(outputs, has_outputs, name) in &WITH_EACH_OPTION {
-        let disk = disk(alloc)?;
-        let words = format!(in alloc;
-            "fsverity digest --hash-alg=sha512 --block-size 0128 --salt abCD {name} --compact --for-builtin-sig{outputs}"
-        )?;
-        let differs = run(alloc, &disk, words.as_str()).differs(0, line.as_bytes(), b"");
-        let is_made = has_outputs
-            && disk.bytes_of("tree")? == expected.0
-            && disk.bytes_of("made")? == expected.1;
-        assert_eq!(rt; (differs, is_made), (None, has_outputs), "at {words}");
+        let words = words_with(alloc, name, outputs)?;
+        let found = outcome(alloc, words.as_str(), line.as_str(), has_outputs, made)?;
+        same(words, found, (None, has_outputs))?;
     }
     Ok(())
 }

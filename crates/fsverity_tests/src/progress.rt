@@ -1,9 +1,9 @@
 //! The progress line of long work: it is shown only on a terminal, and erased before anything else is written there
 //! and in the end.
 use crate::program_runs::disk;
-use fixtures::{is_plain, shown_before};
+use fixtures::{is_plain, same, shown_before};
 use fsverity::{ErasingWriter, ShownProgress, run_program};
-use memory_runtime::{Call, MemoryRuntime, StandardError};
+use memory_runtime::{Call, Disk, MemoryRuntime, StandardError};
 use std::alloc::Global;
 use std::io;
 use std::test::Fail;
@@ -23,17 +23,22 @@ fn written(alloc: Global, run: Run, step: Option<u64>) -> io::Result<(Vec<u8>, u
     disk.fail(Call::Write, failing)?;
     let mut runtime = MemoryRuntime::new(alloc, &disk, words);
     runtime.step = step;
-    let progress = ShownProgress::new(&runtime);
-    let mut msgs = ErasingWriter::new(&progress, StandardError::new(&disk));
+    let is_done = is_done(alloc, &disk, &runtime, is_elsewhere);
+    Ok((disk.standard_error()?, disk.looks()?, is_done))
+}
+
+/// Whether a run that writes to standard error ends with status 0 and a line if its lines go elsewhere.
+fn is_done(alloc: Global, disk: &Disk, runtime: &MemoryRuntime<'_>, is_elsewhere: bool) -> bool {
+    let progress = ShownProgress::new(runtime);
+    let mut msgs = ErasingWriter::new(&progress, StandardError::new(disk));
     let mut lines = Vec::new(alloc);
     let status = if is_elsewhere {
-        run_program(&runtime, &progress, &mut lines, &mut msgs)
+        run_program(runtime, &progress, &mut lines, &mut msgs)
     } else {
-        let mut out = ErasingWriter::new(&progress, StandardError::new(&disk));
-        run_program(&runtime, &progress, &mut out, &mut msgs)
+        let mut out = ErasingWriter::new(&progress, StandardError::new(disk));
+        run_program(runtime, &progress, &mut out, &mut msgs)
     };
-    let is_done = !is_elsewhere || status == 0 && lines.starts_with(b"sha256:");
-    Ok((disk.standard_error()?, disk.looks()?, is_done))
+    !is_elsewhere || status == 0 && lines.starts_with(b"sha256:")
 }
 
 /// How many hundredths are done after each 64 KiB of the file large.
@@ -77,15 +82,27 @@ const RUNS: [(Run, (&[u64], u64), &str); 9] = [
     ),
 ];
 
+/// Whether what a run writes to a pipe begins so, without a progress line, and what a terminal gets then.
+fn told_before(
+    alloc: Global,
+    run: Run,
+    hundredths: &[u64],
+    total: u64,
+    start: &str,
+) -> io::Result<(bool, Vec<u8>)> {
+    let (plain, _, _) = written(alloc, run, None)?;
+    let expected = shown_before(alloc, hundredths, total, plain.as_slice())?;
+    Ok((is_plain(plain.as_slice(), start), expected))
+}
+
 #[test]
 fn a_terminal_is_told_how_far_it_is(rt: HostRuntime) -> Result<(), Fail> {
     let alloc = rt.alloc();
     for &(run, (hundredths, total), start) in &RUNS {
-        let (plain, _, _) = written(alloc, run, None)?;
+        let (is_as_started, expected) = told_before(alloc, run, hundredths, total, start)?;
         let (shown, looks, is_done) = written(alloc, run, Some(STEP))?;
-        let expected = shown_before(alloc, hundredths, total, plain.as_slice())?;
-        let found = (is_plain(plain.as_slice(), start), is_done, looks, shown);
-        assert_eq!(rt; found, (true, true, 1, expected), "at {}", run.0);
+        let found = (is_as_started, is_done, looks, shown);
+        same(run.0, found, (true, true, 1, expected))?;
     }
     Ok(())
 }
