@@ -32,6 +32,9 @@ const BARE: RawOptions<'static> = RawOptions {
     ..OPTIONS
 };
 
+/// The lines of the report up to the UUID.
+const HEAD: &str = "VERITY header information for hash.img\nUUID:            \t";
+
 /// The lines of the report after that of the UUID, without the root hash.
 const LINES: &str = "
 Hash type:       \t1
@@ -78,12 +81,11 @@ fn is_out_of_memory(status: u8, msgs: &[u8]) -> bool {
     status == 3 && msgs == b"Out of memory.\n".as_slice()
 }
 
-/// Whether a text is a report with this UUID, and then these words.
-fn is_report(text: &[u8], uuid: &str, words: &[&str]) -> bool {
-    let head = "VERITY header information for hash.img\nUUID:            \t";
+/// Whether a text is these words, one after another.
+fn is_made_of(text: &[u8], words: &[&str]) -> bool {
     let mut rest = text;
-    for part in [head, uuid, LINES].iter().chain(words) {
-        match rest.strip_prefix(part.as_bytes()) {
+    for word in words {
+        match rest.strip_prefix(word.as_bytes()) {
             Some(more) => rest = more,
             None => return false,
         }
@@ -126,8 +128,8 @@ fn format_result(
     uuid: &str,
 ) -> RunResult {
     let left = (rest, made.device.bytes());
-    let words = ["Root hash:       \t", ROOT, "\n"];
-    let is_told = is_report(made.out.as_slice(), uuid, &words);
+    let words = [HEAD, uuid, LINES, "Root hash:       \t", ROOT, "\n"];
+    let is_told = is_made_of(made.out.as_slice(), &words);
     let is_refused = is_out_of_memory(status, made.msgs.as_slice()) && made.out.is_empty();
     if status == 0 && left == (0, after) && is_told {
         RunResult::Whole
@@ -153,7 +155,7 @@ fn dump(alloc: Global) -> RunResult {
         &mut made.out,
         &mut made.msgs,
     );
-    if status == 0 && is_report(made.out.as_slice(), UUID, &[]) {
+    if status == 0 && is_made_of(made.out.as_slice(), &[HEAD, UUID, LINES]) {
         RunResult::Whole
     } else if is_out_of_memory(status, made.msgs.as_slice()) && made.out.is_empty() {
         RunResult::Untouched
