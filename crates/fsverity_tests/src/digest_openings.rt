@@ -124,17 +124,27 @@ fn run_led(
     Ok((output, disk.opened()?, left))
 }
 
+/// Compares a run over such a disk with what it is to say, open and leave.
+fn check_led(
+    alloc: Global,
+    leads: &[(&str, &str, &str)],
+    words: &str,
+    text: &str,
+    opened: &str,
+) -> Result<(), Fail> {
+    let (output, all, left) = run_led(alloc, leads, words)?;
+    let after = all.as_str().strip_prefix(TWO_READ);
+    let status = if text.is_empty() { 0 } else { 1 };
+    let expected = (status, text.as_bytes(), Some(opened), (status == 1, true));
+    let found = (output.status, output.msgs.as_slice(), after, left);
+    same(words, found, expected)
+}
+
 /// Only an output file that was opened is written, and the input file stays.
 #[test]
 fn an_opened_file_is_known_whatever_its_name_leads_to(rt: HostRuntime) -> Result<(), Fail> {
-    let alloc = rt.alloc();
     for &(leads, words, text, opened) in &LED {
-        let (output, all, left) = run_led(alloc, leads, words)?;
-        let after = all.as_str().strip_prefix(TWO_READ);
-        let status = if text.is_empty() { 0 } else { 1 };
-        let expected = (status, text.as_bytes(), Some(opened), (status == 1, true));
-        let found = (output.status, output.msgs.as_slice(), after, left);
-        same(words, found, expected)?;
+        check_led(rt.alloc(), leads, words, text, opened)?;
     }
     Ok(())
 }

@@ -13,6 +13,9 @@ const OPTIONS: [OptionWords; 5] = [
     ("--out-descriptor", "--out-descriptor=e5", "e5"),
 ];
 
+/// The names of the two files.
+const FILES: [&str; 2] = ["one", "two"];
+
 /// The numbers of the options without a value, after the others.
 const COMPACT: usize = 5;
 
@@ -53,23 +56,21 @@ fn push_options(
     Ok(())
 }
 
-/// The words of a command line with a set of options.
-fn words_of(
-    alloc: Global,
+/// Adds the words of the files and of a set of options.
+fn push_words(
+    words: &mut Vec<&'static str>,
     set: u32,
     (is_reversed, is_one_word, before): Layout,
-) -> Result<Vec<&'static str>, AllocError> {
-    let mut words: Vec<&'static str> = vec![in alloc; "fsverity", "digest"]?;
-    let files = ["one", "two"];
-    for &file in files.iter().take(before) {
+) -> Result<(), AllocError> {
+    for &file in FILES.iter().take(before) {
         words.push(file)?;
     }
     let first = if is_reversed { FOR_BUILTIN_SIG } else { 0 };
-    push_options(&mut words, set, first, is_one_word)?;
-    for &file in files.iter().skip(before) {
+    push_options(words, set, first, is_one_word)?;
+    for &file in FILES.iter().skip(before) {
         words.push(file)?;
     }
-    Ok(words)
+    Ok(())
 }
 
 /// The text of a value, if it is given.
@@ -112,7 +113,8 @@ fn holds(line: &Line, set: u32) -> bool {
 
 /// Whether the words of a command line with a set of options are read as that.
 fn is_read(alloc: Global, set: u32, layout: Layout) -> Result<bool, AllocError> {
-    let words = words_of(alloc, set, layout)?;
+    let mut words: Vec<&'static str> = vec![in alloc; "fsverity", "digest"]?;
+    push_words(&mut words, set, layout)?;
     match read_words(alloc, words.as_slice()) {
         Ok(line) => Ok(holds(&line, set)),
         Err(_) => Ok(false),

@@ -95,14 +95,24 @@ fn told_before(
     Ok((is_plain(plain.as_slice(), start), expected))
 }
 
+/// Compares what a run writes to a terminal with what it is to be told.
+fn check_told(
+    alloc: Global,
+    run: Run,
+    hundredths: &[u64],
+    total: u64,
+    start: &str,
+) -> Result<(), Fail> {
+    let (is_as_started, expected) = told_before(alloc, run, hundredths, total, start)?;
+    let (shown, looks, is_done) = written(alloc, run, Some(STEP))?;
+    let found = (is_as_started, is_done, looks, shown);
+    same(run.0, found, (true, true, 1, expected))
+}
+
 #[test]
 fn a_terminal_is_told_how_far_it_is(rt: HostRuntime) -> Result<(), Fail> {
-    let alloc = rt.alloc();
     for &(run, (hundredths, total), start) in &RUNS {
-        let (is_as_started, expected) = told_before(alloc, run, hundredths, total, start)?;
-        let (shown, looks, is_done) = written(alloc, run, Some(STEP))?;
-        let found = (is_as_started, is_done, looks, shown);
-        same(run.0, found, (true, true, 1, expected))?;
+        check_told(rt.alloc(), run, hundredths, total, start)?;
     }
     Ok(())
 }
