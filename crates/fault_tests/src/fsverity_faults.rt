@@ -1,5 +1,6 @@
 //! Each fault of fsverity in turn.
 use crate::fsverity_commands::{Form, Named, Outputs, Setup};
+use fixtures::same;
 use memory_runtime::Call;
 use std::test::Fail;
 use verity_hash::Algorithm;
@@ -94,7 +95,7 @@ fn each_fault_of_digest_is_answered(rt: HostRuntime) -> Result<(), Fail> {
     for (form, setup, files) in &ALONE {
         let scene = setup.digest(rt.alloc(), *form, files, (false, false))?;
         let wrong = scene.first_wrong(Call::Read)?;
-        assert_eq!(rt; wrong, None, "at {}{}", setup.options, form.0);
+        same(format_args!("{}{}", setup.options, form.0), wrong, None)?;
     }
     Ok(())
 }
@@ -104,7 +105,8 @@ fn each_fault_with_output_files_is_answered(rt: HostRuntime) -> Result<(), Fail>
     for (outputs, form, setup, file) in &WITH_OUTPUTS {
         let scene = setup.digest(rt.alloc(), *form, &[*file], *outputs)?;
         let wrong = scene.first_wrong(Call::Seek)?;
-        assert_eq!(rt; wrong, None, "at {}{} {}", setup.options, form.0, file.name);
+        let at = format_args!("{}{} {}", setup.options, form.0, file.name);
+        same(at, wrong, None)?;
     }
     Ok(())
 }

@@ -1,6 +1,6 @@
 //! Superblocks and trees from an attacker: dump and verify end with a status and one line that say what is wrong, or
 //! find nothing wrong, and change nothing.
-use fixtures::{Image, SUPERBLOCK_FIELDS, SUPERBLOCK_SIZE, flip, flip_bit, image_of, lay};
+use fixtures::{Image, SUPERBLOCK_FIELDS, SUPERBLOCK_SIZE, flip, flip_bit, image_of, lay, same};
 use std::alloc::{AllocError, Global};
 use std::test::Fail;
 use verity_io::{MemoryDevice, MemorySource};
@@ -110,14 +110,13 @@ fn superblocks_with_a_changed_field_are_judged(rt: HostRuntime) -> Result<(), Fa
     for &(at, width) in &SUPERBLOCK_FIELDS {
         for round in 0..200 {
             let status = verified_with_field(rt.alloc(), &image, at, width, &mut numbers)?;
-            assert!(rt; status.is_some(), "at {at}, round {round}");
+            same(format_args!("{at}, round {round}"), status.is_some(), true)?;
             if let Some(place) = seen.get_mut(usize::from(status.unwrap_or(3))) {
                 *place = true;
             }
         }
     }
-    assert_eq!(rt; seen, [true, true, true, false, true]);
-    Ok(())
+    same("the statuses", seen, [true, true, true, false, true])
 }
 
 #[test]
@@ -125,10 +124,10 @@ fn trees_with_a_changed_byte_are_refused(rt: HostRuntime) -> Result<(), Fail> {
     let alloc = rt.alloc();
     let image = salted_image(alloc)?;
     let whole = verified(alloc, &image, image.device.as_slice())?;
-    assert_eq!(rt; whole, Some(0));
+    same("no change", whole, Some(0))?;
     for at in SUPERBLOCK_SIZE..2048 {
         let status = verified_with_change(alloc, &image, at)?;
-        assert_eq!(rt; status, Some(2), "at {at}");
+        same(at, status, Some(2))?;
     }
     Ok(())
 }

@@ -1,5 +1,6 @@
 //! Each fault of veritysetup in turn.
 use crate::veritysetup_commands::Setup;
+use fixtures::same;
 use memory_runtime::Call;
 use std::test::Fail;
 use verity_hash::Algorithm;
@@ -57,7 +58,7 @@ const SETUPS: [Setup; 3] = [
 fn each_fault_of_format_is_answered(rt: HostRuntime) -> Result<(), Fail> {
     for setup in &SETUPS {
         let wrong = setup.format(rt.alloc())?.first_wrong(Call::Write)?;
-        assert_eq!(rt; wrong, None, "at {}", setup.blocks);
+        same(setup.blocks, wrong, None)?;
     }
     Ok(())
 }
@@ -66,7 +67,7 @@ fn each_fault_of_format_is_answered(rt: HostRuntime) -> Result<(), Fail> {
 fn each_fault_of_verify_is_answered(rt: HostRuntime) -> Result<(), Fail> {
     for setup in &SETUPS {
         let wrong = setup.verify(rt.alloc())?.first_wrong(Call::Read)?;
-        assert_eq!(rt; wrong, None, "at {}", setup.blocks);
+        same(setup.blocks, wrong, None)?;
     }
     Ok(())
 }
@@ -76,7 +77,7 @@ fn each_fault_of_dump_is_answered(rt: HostRuntime) -> Result<(), Fail> {
     for setup in &SETUPS {
         if setup.superblock.is_some() {
             let wrong = setup.dump(rt.alloc())?.first_wrong(Call::Read)?;
-            assert_eq!(rt; wrong, None, "at {}", setup.blocks);
+            same(setup.blocks, wrong, None)?;
         }
     }
     Ok(())
