@@ -52,13 +52,17 @@ fn front(bytes: &[u8], room: usize) -> &[u8] {
 }
 
 impl Ending {
+    /// How often a call was made.
+    pub fn made(&self, call: Call) -> u64 {
+        self.calls.get(call as usize).copied().unwrap_or(0)
+    }
+
     /// Counts a call. The result is its number.
     fn count(&mut self, call: Call) -> u64 {
-        let Some(made) = self.calls.get_mut(call as usize) else {
-            return 0;
-        };
-        *made = made.saturating_add(1);
-        *made
+        if let Some(made) = self.calls.get_mut(call as usize) {
+            *made = made.saturating_add(1);
+        }
+        self.made(call)
     }
 
     /// Prints a text, as far as there is room. The result is whether there was room for all of it.
@@ -95,9 +99,8 @@ impl Ending {
         };
         if !goes_on && !message.is_empty() {
             self.output.status = program.failed();
-            self.output
-                .msgs
-                .extend_from_slice(front(message, trial.message_room))?;
+            let front = front(message, trial.message_room);
+            self.output.msgs.extend_from_slice(front)?;
         }
         Ok(goes_on)
     }
@@ -121,8 +124,8 @@ impl Ending {
 
     /// Whether each call is made just as often, or each but these.
     fn has_calls_of(&self, found: &Ending, but: &[Call]) -> bool {
-        for ((kind, one), other) in CALLS.iter().zip(self.calls.iter()).zip(found.calls.iter()) {
-            if one != other && !but.contains(kind) {
+        for call in &CALLS {
+            if self.made(*call) != found.made(*call) && !but.contains(call) {
                 return false;
             }
         }

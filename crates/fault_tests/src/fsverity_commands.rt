@@ -5,6 +5,7 @@ use crate::steps::Effect;
 use fixtures::{Shape, Tree, data, descriptor, with_zeros};
 use memory_runtime::Call;
 use std::alloc::{AllocError, Global};
+use std::test::Fail;
 use verity_hash::Algorithm;
 
 /// How files are digested, as plain numbers.
@@ -61,56 +62,43 @@ impl Setup {
         }
     }
 
-    /// The digits of the digest of a descriptor.
-    fn digits(&self, alloc: Global, descriptor: &[u8]) -> Result<String, AllocError> {
+    /// The line of a file with this descriptor.
+    fn line(
+        &self,
+        alloc: Global,
+        (_, with_name, signed): Form,
+        descriptor: &[u8],
+        name: &'static str,
+    ) -> Result<String, AllocError> {
         let shape = Shape::new(alloc, self.algorithm, (0, 0), (0, 0));
-        hex::encode(alloc, shape.digest(alloc, descriptor)?.as_slice())
-    }
-
-    /// What comes before the digits in a line.
-    fn before(&self, (_, with_name, signed): Form) -> &'static str {
-        if signed {
+        let digits = hex::encode(alloc, shape.digest(alloc, descriptor)?.as_slice())?;
+        let before = if signed {
             self.before_signed
         } else if with_name {
             self.before
         } else {
             ""
-        }
+        };
+        let (space, name) = if with_name { (" ", name) } else { ("", "") };
+        [before, digits.as_str(), space, name, "\n"].concat(alloc)
     }
 
-    /// The line of a file with this descriptor.
-    fn line(
-        &self,
-        alloc: Global,
-        form: Form,
-        descriptor: &[u8],
-        name: &str,
-    ) -> Result<String, AllocError> {
-        let digits = self.digits(alloc, descriptor)?;
-        let before = self.before(form);
-        if form.1 {
-            format!(in alloc; "{before}{digits} {name}\n")
-        } else {
-            format!(in alloc; "{before}{digits}\n")
-        }
-    }
-
-    /// Digest of some files, with output files if there is one.
-    pub fn digest(
+    /// Tries each fault of digest of some files, with output files if there is one.
+    pub fn try_digest(
         &self,
         alloc: Global,
         form: Form,
         files: &[Named],
         outputs: Outputs,
-    ) -> Result<Scene, AllocError> {
-        let words = format!(in alloc; "fsverity digest {}{}", self.options, form.0)?;
+        first: Call,
+    ) -> Result<(), Fail> {
+        let words = ["fsverity digest ", self.options, form.0].concat(alloc)?;
         let mut scene = Scene::new(alloc, Program::Fsverity, words)?;
-        scene.files.push(("tree", vec![in alloc; 77u8; 5000]?))?;
         self.digests(&mut scene, form, files, outputs)?;
-        Ok(scene)
+        scene.try_all(first)
     }
 
-    /// The files are digested, one after the other.
+    /// The files are digested, one after the other. The file for the tree is there before.
     fn digests(
         &self,
         scene: &mut Scene,
@@ -118,6 +106,8 @@ impl Setup {
         files: &[Named],
         outputs: Outputs,
     ) -> Result<(), AllocError> {
+        let alloc = scene.alloc;
+        scene.has_file("tree", vec![in alloc; 77u8; 5000]?)?;
         for file in files {
             let pass = scene.opens_files(*file, outputs)?;
             self.prints_line(scene, form, *file, pass, outputs.1)?;
@@ -125,8 +115,16 @@ impl Setup {
         Ok(())
     }
 
-    /// The data of a file is read once, and if it is wanted, each block of the tree is written as it closes, and then
-    /// the descriptor; then the line is printed.
+    /// The data of a file is read once, and each block of the tree is written as it closes, if that is wanted. The
+    /// result is the descriptor.
+    fn reads(&self, scene: &mut Scene, file: Named, pass: Pass) -> Result<Vec<u8>, AllocError> {
+        let tree = self.tree(scene.alloc, file)?;
+        scene.passes(pass, &tree, self.extent(file.length))?;
+        let (size, root) = (file.length as u64, tree.root.as_slice());
+        descriptor(scene.alloc, &self.head, size, root, self.salt)
+    }
+
+    /// The data of a file is read, and if it is wanted, the descriptor is written; then the line is printed.
     fn prints_line(
         &self,
         scene: &mut Scene,
@@ -135,12 +133,8 @@ impl Setup {
         pass: Pass,
         wants_descriptor: bool,
     ) -> Result<(), AllocError> {
-        let alloc = scene.alloc;
-        let tree = self.tree(alloc, file)?;
-        scene.passes(pass, &tree, self.extent(file.length))?;
-        let size = file.length as u64;
-        let bytes = descriptor(alloc, &self.head, size, tree.root.as_slice(), self.salt)?;
-        let line = self.line(alloc, form, bytes.as_slice(), file.name)?;
+        let bytes = self.reads(scene, file, pass)?;
+        let line = self.line(scene.alloc, form, bytes.as_slice(), file.name)?;
         if wants_descriptor {
             let put = Effect::Put("made", 0, bytes);
             scene.calls(Call::Write, "fsverity: cannot write descriptor.\n", put)?;
@@ -150,41 +144,41 @@ impl Setup {
 }
 
 impl Scene {
-    /// A file is opened, and then the output files that are wanted, which are emptied. The result is what the pass
-    /// does.
+    /// A file is opened, and then the output files that are wanted. The result is what the pass does.
     fn opens_files(&mut self, file: Named, outputs: Outputs) -> Result<Pass, AllocError> {
-        let name = file.name;
-        write!(self.words, " {name}")?;
-        self.files.push((name, data(self.alloc, file.length)?))?;
-        self.measures(name)?;
-        self.asks_for_folders(outputs)?;
-        if outputs.0 {
-            self.empties("tree", " --out-merkle-tree tree")?;
-        }
-        if outputs.1 {
-            self.empties("made", " --out-descriptor made")?;
-        }
+        self.names(file)?;
+        self.measures(file.name)?;
+        self.empties(outputs)?;
         Ok(if outputs.0 {
-            Pass::DigestTo(name, "tree")
+            Pass::DigestTo(file.name, "tree")
         } else {
-            Pass::Digest(name)
+            Pass::Digest(file.name)
         })
     }
 
-    /// The system is asked of each output file that is wanted whether it is a folder.
-    fn asks_for_folders(&mut self, outputs: Outputs) -> Result<(), AllocError> {
-        if outputs.0 {
-            self.asks(Call::Metadata)?;
-        }
-        if outputs.1 {
-            self.asks(Call::Metadata)?;
-        }
-        Ok(())
+    /// A file is there before the run, and the command line names it.
+    fn names(&mut self, file: Named) -> Result<(), AllocError> {
+        self.words.push(' ')?;
+        self.words.push_str(file.name)?;
+        self.has_file(file.name, data(self.alloc, file.length)?)
     }
 
-    /// The output file of an option is opened and emptied.
-    fn empties(&mut self, name: &'static str, option: &str) -> Result<(), AllocError> {
-        self.words.push_str(option)?;
-        self.opens_to_write(name, Effect::Emptied(name))
+    /// The system is asked of each output file that is wanted whether it is a folder; then each is opened and emptied.
+    fn empties(&mut self, outputs: Outputs) -> Result<(), AllocError> {
+        for wanted in &[outputs.0, outputs.1] {
+            if *wanted {
+                self.asks(Call::Metadata)?;
+            }
+        }
+        for &(wanted, option, name) in &[
+            (outputs.0, " --out-merkle-tree tree", "tree"),
+            (outputs.1, " --out-descriptor made", "made"),
+        ] {
+            if wanted {
+                self.words.push_str(option)?;
+                self.opens_to_write(name, Effect::Emptied(name))?;
+            }
+        }
+        Ok(())
     }
 }

@@ -111,9 +111,9 @@ impl Scene {
         if matches!(pass, Pass::Digest(_)) {
             return Ok(());
         }
-        let (call, effect) = pass.call_of_block(self.alloc, tree, size, level, index)?;
         let message = pass.stopped(self.alloc, level, index)?;
         self.calls(Call::Seek, message.as_str(), Effect::Nothing)?;
+        let (call, effect) = pass.call_of_block(self.alloc, tree, size, level, index)?;
         self.calls(call, message.as_str(), effect)
     }
 }

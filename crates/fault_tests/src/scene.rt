@@ -1,6 +1,6 @@
 //! A command over some files, as a list of steps: which call each makes, the message if that call fails, and what it
 //! leaves.
-use crate::steps::{Effect, Files, Step};
+use crate::steps::{Effect, Files, Step, number_of};
 use memory_runtime::Call;
 use std::alloc::{AllocError, Global};
 
@@ -30,10 +30,11 @@ impl Program {
 
     /// The message for a file that can't be opened.
     fn unopened(self, alloc: Global, name: &str) -> Result<String, AllocError> {
-        match self {
-            Program::Veritysetup => format!(in alloc; "Cannot open {name}.\n"),
-            Program::Fsverity => format!(in alloc; "fsverity: cannot open {name}.\n"),
-        }
+        let what = match self {
+            Program::Veritysetup => "Cannot",
+            Program::Fsverity => "fsverity: cannot",
+        };
+        [what, " open ", name, ".\n"].concat(alloc)
     }
 }
 
@@ -66,6 +67,12 @@ impl Scene {
         Ok(scene)
     }
 
+    /// One more file is there before the run.
+    pub fn has_file(&mut self, name: &'static str, bytes: Vec<u8>) -> Result<(), AllocError> {
+        self.files.push((name, bytes))?;
+        Ok(())
+    }
+
     /// One more call of a file, the message if it fails, and what it leaves.
     pub fn calls(&mut self, call: Call, message: &str, effect: Effect) -> Result<(), AllocError> {
         let message = String::from_str(self.alloc, message)?;
@@ -96,13 +103,12 @@ impl Scene {
     /// A file is opened.
     pub fn opens(&mut self, name: &str, effect: Effect) -> Result<(), AllocError> {
         let message = self.program.unopened(self.alloc, name)?;
-        self.steps.push(Step::Calls(Call::Open, message, effect))?;
-        Ok(())
+        self.calls(Call::Open, message.as_str(), effect)
     }
 
     /// A file is opened to be written. If it isn't there, it is opened once more, to be made.
     pub fn opens_to_write(&mut self, name: &'static str, effect: Effect) -> Result<(), AllocError> {
-        if !self.files.iter().any(|(other, _)| *other == name) {
+        if number_of(&self.files, name).is_none() {
             self.opens(name, Effect::Nothing)?;
         }
         self.opens(name, effect)
@@ -110,15 +116,18 @@ impl Scene {
 
     /// A file is opened to be read, if the system says that it is no folder.
     pub fn opens_to_read(&mut self, name: &str) -> Result<(), AllocError> {
-        let message = self.program.unopened(self.alloc, name)?;
-        self.calls_all(&[Call::Open, Call::Metadata], message.as_str())
+        self.opens_with(name, &[Call::Open, Call::Metadata])
     }
 
     /// A file is opened to be read, and its length is found by a seek to its end, from which the run goes back to its
     /// start.
     pub fn measures(&mut self, name: &str) -> Result<(), AllocError> {
-        self.opens_to_read(name)?;
+        self.opens_with(name, &[Call::Open, Call::Metadata, Call::Seek, Call::Seek])
+    }
+
+    /// A file is opened by these calls.
+    fn opens_with(&mut self, name: &str, calls: &[Call]) -> Result<(), AllocError> {
         let message = self.program.unopened(self.alloc, name)?;
-        self.calls_all(&[Call::Seek, Call::Seek], message.as_str())
+        self.calls_all(calls, message.as_str())
     }
 }

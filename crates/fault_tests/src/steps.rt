@@ -31,12 +31,20 @@ pub enum Step {
 /// Files by their names.
 pub type Files = Vec<(&'static str, Vec<u8>)>;
 
-/// The number of the file of a name, made if it is missing.
-fn file_of(alloc: Global, files: &mut Files, name: &'static str) -> Result<usize, AllocError> {
+/// The number of the file of a name.
+pub fn number_of(files: &Files, name: &str) -> Option<usize> {
     for (number, (other, _)) in files.iter().enumerate() {
         if *other == name {
-            return Ok(number);
+            return Some(number);
         }
+    }
+    None
+}
+
+/// The number of the file of a name, made if it is missing.
+fn file_of(alloc: Global, files: &mut Files, name: &'static str) -> Result<usize, AllocError> {
+    if let Some(number) = number_of(files, name) {
+        return Ok(number);
     }
     files.push((name, Vec::new(alloc)))?;
     Ok(files.len().saturating_sub(1))

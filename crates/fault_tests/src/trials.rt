@@ -2,16 +2,12 @@
 use crate::endings::{CALLS, Ending, STEADY, Trial};
 use crate::scene::{Program, Scene};
 use crate::steps::Files;
-use fixtures::{LimitedWriter, RunOutput};
+use fixtures::{LimitedWriter, RunOutput, same};
 use memory_runtime::{Call, Disk, Kind, MemoryRuntime};
-use std::alloc::{AllocError, Global};
+use std::alloc::Global;
 use std::io;
 use std::test::Fail;
 use veritysetup::ShownProgress;
-
-/// A trial that doesn't end as the steps say: the call that fails and its number, the room for the output and for the
-/// messages, and what is wrong.
-type Wrong = ((Call, u64), usize, usize, &'static str);
 
 /// The files of these names that are on a disk.
 fn files_on(alloc: Global, disk: &Disk, names: &Files) -> io::Result<Files> {
@@ -44,38 +40,14 @@ fn calls_after(call: Call) -> &'static [Call] {
     }
 }
 
-/// Adds the trials in which a call of this kind fails, from the first up to this one.
-fn fail_in_turn(trials: &mut Vec<Trial>, call: Call, last: u64) -> Result<(), AllocError> {
-    for number in 1..=last {
-        let failing = (call, number);
-        trials.push(Trial { failing, ..STEADY })?;
-    }
-    Ok(())
-}
-
-/// Adds the trials in which the output ends at each length up to this one.
-fn end_in_turn(
-    trials: &mut Vec<Trial>,
-    length: usize,
-    takes_nothing: bool,
-) -> Result<(), AllocError> {
-    for room in 0..=length {
-        trials.push(Trial {
-            room,
-            takes_nothing,
-            ..STEADY
-        })?;
-    }
-    Ok(())
-}
-
 impl Scene {
-    /// A disk with the root folder, the current folder and the files.
-    fn disk(&self) -> io::Result<Disk> {
+    /// A disk with the root folder, the current folder and the files, of which a call fails.
+    fn disk(&self, (call, number): (Call, u64)) -> io::Result<Disk> {
         let disk = Disk::new(self.alloc);
         disk.make_kind("/", Kind::Folder, Vec::new(self.alloc))?;
         disk.make_kind(".", Kind::Folder, Vec::new(self.alloc))?;
         self.make_files(&disk)?;
+        disk.fail(call, number)?;
         Ok(disk)
     }
 
@@ -107,52 +79,75 @@ impl Scene {
         }
     }
 
+    /// How the run ends in a trial. The files are those of these names.
+    fn found(&self, trial: &Trial, names: &Files) -> io::Result<Ending> {
+        let disk = self.disk(trial.failing)?;
+        Ok(Ending {
+            output: self.run(&disk, trial),
+            files: files_on(self.alloc, &disk, names)?,
+            calls: calls_on(&disk)?,
+        })
+    }
+
     /// What differs in a trial from how the steps say that the run ends. The files compared are those of a run that
     /// goes through.
     fn wrong(&self, trial: &Trial, whole: &Ending) -> Result<Option<&'static str>, Fail> {
-        let disk = self.disk()?;
-        let (call, number) = trial.failing;
-        disk.fail(call, number)?;
-        let found = Ending {
-            output: self.run(&disk, trial),
-            files: files_on(self.alloc, &disk, &whole.files)?,
-            calls: calls_on(&disk)?,
-        };
+        let found = self.found(trial, &whole.files)?;
         let expected = self.ending(trial)?;
-        let made = whole.calls.get(call as usize).copied().unwrap_or(0);
-        let fails = (1..=made).contains(&number);
+        let (call, number) = trial.failing;
+        let fails = (1..=whole.made(call)).contains(&number);
         Ok(expected.differs(&found, if fails { calls_after(call) } else { &[] }))
     }
 
-    /// All trials: each call of a kind fails in turn, and then one more than there are, so that nothing fails; the
-    /// output ends at each length, and fails there or takes nothing; and the messages end at each length after the
-    /// first call of a kind has failed.
-    fn trials(&self, whole: &Ending, first: Call) -> Result<Vec<Trial>, AllocError> {
-        let mut trials = Vec::new(self.alloc);
-        for (call, made) in CALLS.iter().zip(whole.calls.iter()) {
-            fail_in_turn(&mut trials, *call, made.saturating_add(1))?;
+    /// An error if a trial doesn't end as the steps say: the command, the call that fails and its number, the room for
+    /// the output and for the messages, and what is wrong.
+    fn try_one(&self, trial: Trial, whole: &Ending) -> Result<(), Fail> {
+        let wrong = self.wrong(&trial, whole)?;
+        let faults = (trial.failing, trial.room, trial.message_room);
+        same(format_args!("{}, {faults:?}", self.words), wrong, None)
+    }
+
+    /// Each call of a kind fails in turn, and then one more than there are, so that nothing fails.
+    fn calls_fail(&self, whole: &Ending) -> Result<(), Fail> {
+        let mut trial = STEADY;
+        for call in &CALLS {
+            for number in 1..=whole.made(*call).saturating_add(1) {
+                trial.failing = (*call, number);
+                self.try_one(trial, whole)?;
+            }
         }
-        let length = whole.output.out.len();
-        end_in_turn(&mut trials, length, false)?;
-        end_in_turn(&mut trials, length, true)?;
+        Ok(())
+    }
+
+    /// The output ends at each length, and fails there or takes nothing.
+    fn output_ends(&self, whole: &Ending) -> Result<(), Fail> {
+        let mut trial = STEADY;
+        for takes_nothing in &[false, true] {
+            trial.takes_nothing = *takes_nothing;
+            for room in 0..=whole.output.out.len() {
+                trial.room = room;
+                self.try_one(trial, whole)?;
+            }
+        }
+        Ok(())
+    }
+
+    /// The messages end at each length after the first call of this kind has failed.
+    fn messages_end(&self, whole: &Ending, first: Call) -> Result<(), Fail> {
         let mut trial = STEADY;
         trial.failing = (first, 1);
         for room in 0..=self.ending(&trial)?.output.msgs.len() {
             trial.message_room = room;
-            trials.push(trial)?;
+            self.try_one(trial, whole)?;
         }
-        Ok(trials)
+        Ok(())
     }
 
-    /// The first trial that doesn't end as it should. The messages end at each length after the first call of this kind
-    /// has failed.
-    pub fn first_wrong(self, first: Call) -> Result<Option<Wrong>, Fail> {
+    /// An error if a trial doesn't end as it should. The messages end after the first call of this kind has failed.
+    pub fn try_all(&self, first: Call) -> Result<(), Fail> {
         let whole = self.ending(&STEADY)?;
-        for trial in self.trials(&whole, first)?.iter() {
-            if let Some(what) = self.wrong(trial, &whole)? {
-                return Ok(Some((trial.failing, trial.room, trial.message_room, what)));
-            }
-        }
-        Ok(None)
+        self.calls_fail(&whole)?;
+        self.output_ends(&whole)?;
+        self.messages_end(&whole, first)
     }
 }

@@ -2,10 +2,11 @@
 use crate::endings::STEADY;
 use crate::passes::{Extent, Pass};
 use crate::scene::{Program, Scene};
-use crate::steps::{Effect, Files};
+use crate::steps::Effect;
 use fixtures::{REPORT_17, Report, Shape, Tree, data, salt_text, superblock};
 use memory_runtime::Call;
 use std::alloc::{AllocError, Global};
+use std::test::Fail;
 use verity_hash::Algorithm;
 
 /// How an image is made, as plain numbers.
@@ -40,18 +41,13 @@ const HASH: &str = "hash.img";
 const UUID_OPTION: &str = " --uuid 00112233-4455-4677-8899-aabbccddeeff";
 
 impl Setup {
-    /// The data.
-    fn data(&self, alloc: Global) -> Result<Vec<u8>, AllocError> {
-        data(alloc, self.covered().saturating_add(self.more))
-    }
-
     /// How many bytes of the data are covered.
     fn covered(&self) -> usize {
         self.blocks.saturating_mul(self.sizes.0)
     }
 
     /// The tree above the data.
-    pub fn tree(&self, alloc: Global) -> Result<Tree, AllocError> {
+    fn tree(&self, alloc: Global) -> Result<Tree, AllocError> {
         let mut shape = Shape::new(alloc, self.algorithm, self.sizes, self.slots);
         shape.set_salt(self.hash_type, self.salt.to_vec(alloc)?);
         shape.tree(alloc, data(alloc, self.covered())?.as_slice(), self.levels)
@@ -93,7 +89,6 @@ impl Setup {
     /// folder of a new file if that can be opened.
     pub fn format(&self, alloc: Global) -> Result<Scene, AllocError> {
         let mut scene = Scene::new(alloc, Program::Veritysetup, self.words_of_format(alloc)?)?;
-        self.adds_files(&mut scene)?;
         self.formats(&mut scene)?;
         Ok(scene)
     }
@@ -101,23 +96,30 @@ impl Setup {
     /// The files that are there before format.
     fn adds_files(&self, scene: &mut Scene) -> Result<(), AllocError> {
         let alloc = scene.alloc;
-        scene.files.push(("data", self.data(alloc)?))?;
-        if let Some(length) = self.before {
-            scene.files.push((HASH, vec![in alloc; 77u8; length]?))?;
+        let length = self.covered().saturating_add(self.more);
+        scene.has_file("data", data(alloc, length)?)?;
+        match self.before {
+            Some(length) => scene.has_file(HASH, vec![in alloc; 77u8; length]?),
+            None => Ok(()),
         }
-        Ok(())
     }
 
-    /// The steps of format.
+    /// The files before format, and its steps.
     fn formats(&self, scene: &mut Scene) -> Result<(), AllocError> {
+        self.adds_files(scene)?;
         scene.measures("data")?;
         scene.asks(Call::Metadata)?;
         scene.opens_to_write(HASH, Effect::Made(HASH))?;
         self.writes(scene)?;
-        scene.calls(Call::Sync, "Cannot write hash.img.\n", Effect::Nothing)?;
+        self.syncs(scene)
+    }
+
+    /// The hash device is synced, and its folder if it is new.
+    fn syncs(&self, scene: &mut Scene) -> Result<(), AllocError> {
+        scene.calls_all(&[Call::Sync], "Cannot write hash.img.\n")?;
         if self.before.is_none() {
-            scene.calls(Call::Open, "", Effect::Nothing)?;
-            scene.calls(Call::Sync, "Cannot write hash.img.\n", Effect::Nothing)?;
+            scene.calls_all(&[Call::Open], "")?;
+            scene.calls_all(&[Call::Sync], "Cannot write hash.img.\n")?;
         }
         Ok(())
     }
@@ -129,60 +131,55 @@ impl Setup {
         } else {
             ""
         };
-        let options = self.options;
-        format!(in alloc; "veritysetup format {options}{uuid} data hash.img")
+        ["veritysetup format ", self.options, uuid, " data hash.img"].concat(alloc)
     }
 
     /// The pass, the superblock and the report of format.
     fn writes(&self, scene: &mut Scene) -> Result<(), AllocError> {
         let tree = self.tree(scene.alloc)?;
         scene.passes(Pass::Format(HASH, self.tree_at), &tree, self.extent())?;
-        if let Some(offset) = self.superblock {
-            self.writes_superblock(scene, offset)?;
-        }
+        self.writes_superblock(scene)?;
         scene.prints(self.report(scene.alloc, Some(tree.root.as_slice()))?)
     }
 
-    /// The superblock is written at an offset.
-    fn writes_superblock(&self, scene: &mut Scene, offset: usize) -> Result<(), AllocError> {
+    /// The superblock is written, if there is one.
+    fn writes_superblock(&self, scene: &mut Scene) -> Result<(), AllocError> {
+        let Some(offset) = self.superblock else {
+            return Ok(());
+        };
         let name = self.name.as_bytes();
         let bytes = superblock(self.hash_type, name, self.sizes, self.blocks, self.salt);
+        scene.calls_all(&[Call::Seek], "Cannot write superblock.\n")?;
         let put = Effect::Put(HASH, offset, bytes.to_vec(scene.alloc)?);
-        scene.calls(Call::Seek, "Cannot write superblock.\n", Effect::Nothing)?;
         scene.calls(Call::Write, "Cannot write superblock.\n", put)
-    }
-
-    /// The files that format leaves.
-    fn made(&self, alloc: Global) -> Result<Files, AllocError> {
-        Ok(self.format(alloc)?.ending(&STEADY)?.files)
     }
 
     /// A command of veritysetup with these words, over the files that format leaves.
     fn over_made(&self, alloc: Global, words: String) -> Result<Scene, AllocError> {
         let mut scene = Scene::new(alloc, Program::Veritysetup, words)?;
-        scene.files = self.made(alloc)?;
+        scene.files = self.format(alloc)?.ending(&STEADY)?.files;
         Ok(scene)
     }
 
     /// The words of verify, with the root hash at the end.
     fn words_of_verify(&self, alloc: Global, root: &[u8]) -> Result<String, AllocError> {
         let root = hex::encode(alloc, root)?;
-        let options = self.options;
+        let root = root.as_str();
         match self.superblock {
             Some(offset) => {
                 format!(in alloc; "veritysetup verify --hash-offset {offset} data hash.img {root}")
             }
-            None => format!(in alloc; "veritysetup verify {options} data hash.img {root}"),
+            None => ["veritysetup verify ", self.options, " data hash.img ", root].concat(alloc),
         }
     }
 
-    /// Verify: the superblock is read, then the data once, and each hash block as it closes.
-    pub fn verify(&self, alloc: Global) -> Result<Scene, AllocError> {
+    /// Tries each fault of verify: the superblock is read, then the data once, and each hash block as it closes.
+    pub fn try_verify(&self, alloc: Global) -> Result<(), Fail> {
         let tree = self.tree(alloc)?;
         let words = self.words_of_verify(alloc, tree.root.as_slice())?;
         let mut scene = self.over_made(alloc, words)?;
         self.verifies(&mut scene, &tree)?;
-        Ok(scene)
+        scene.try_all(Call::Read)
     }
 
     /// The steps of verify.
@@ -195,15 +192,20 @@ impl Setup {
         scene.passes(Pass::Verify, tree, self.extent())
     }
 
-    /// Dump: the superblock is read, and its report is printed.
-    pub fn dump(&self, alloc: Global) -> Result<Scene, AllocError> {
+    /// Tries each fault of dump: the superblock is read, and its report is printed.
+    pub fn try_dump(&self, alloc: Global) -> Result<(), Fail> {
         let offset = self.superblock.unwrap_or(0);
         let words = format!(in alloc; "veritysetup dump --hash-offset {offset} hash.img")?;
         let mut scene = self.over_made(alloc, words)?;
+        self.dumps(&mut scene)?;
+        scene.try_all(Call::Read)
+    }
+
+    /// The steps of dump.
+    fn dumps(&self, scene: &mut Scene) -> Result<(), AllocError> {
         scene.opens_to_read(HASH)?;
         scene.reads_superblock()?;
-        scene.prints(self.report(alloc, None)?)?;
-        Ok(scene)
+        scene.prints(self.report(scene.alloc, None)?)
     }
 }
 
