@@ -1,12 +1,13 @@
 //! A disk that a test fills, lets programs run over, and then looks at.
 ghost use Rattle.std.specs.Prelude.{IsErr};
 
-use crate::call::Call;
-use crate::contents::{Contents, Stored};
+use crate::call::{Call, Calls};
+use crate::contents::Contents;
 use crate::kind::Kind;
+use crate::stored::Stored;
 use command_line::FileIdentity;
 use std::alloc::Global;
-use std::cell::{RefCell, RefMut};
+use std::cell::{Cell, RefCell, RefMut};
 use std::fs::{Metadata, OpenOptions};
 use std::io;
 use std::io::ErrorKind;
@@ -17,6 +18,20 @@ use std::io::ErrorKind;
 pub struct Disk {
     alloc: Global,
     contents: RefCell<Contents>,
+    calls: Cell<Calls>,
+    /// How often the clock was read.
+    pub(crate) clock_reads: Cell<u64>,
+    /// How often the runtime was asked for the step of the progress line.
+    pub(crate) looks: Cell<u64>,
+    /// How many random bytes the runtime was asked for.
+    pub(crate) random_bytes: Cell<u64>,
+}
+
+/// Adds to a count. The result is the sum.
+pub(crate) fn add(count: &Cell<u64>, more: u64) -> u64 {
+    let sum = count.get().saturating_add(more);
+    count.set(sum);
+    sum
 }
 
 /// An error of this kind.
@@ -32,6 +47,10 @@ impl Disk {
         Disk {
             alloc,
             contents: RefCell::new(Contents::new(alloc)),
+            calls: Cell::new(Calls::NONE),
+            clock_reads: Cell::new(0),
+            looks: Cell::new(0),
+            random_bytes: Cell::new(0),
         }
     }
 
@@ -48,19 +67,14 @@ impl Disk {
 
     /// Makes a file of a kind.
     pub fn make_kind(&self, name: &str, kind: Kind, bytes: Vec<u8>) -> io::Result<()> {
-        let mut contents = self.contents()?;
-        contents.make(self.alloc, name, Stored::new(self.alloc, kind, bytes))?;
+        let stored = Stored::new(self.alloc, kind, bytes);
+        let _number = self.contents()?.make(self.alloc, name, stored)?;
         Ok(())
     }
 
     /// Gives the file of this name another name as well.
     pub fn link(&self, name: &str, other: &str) -> io::Result<()> {
-        let mut contents = self.contents()?;
-        let Some(number) = contents.number_of(name) else {
-            return refused(ErrorKind::NotFound);
-        };
-        contents.link(self.alloc, other, number)?;
-        Ok(())
+        self.contents()?.link(self.alloc, name, other)
     }
 
     /// From when a path is opened on, lets another path, or the same one, lead to the file that a third leads to then.
@@ -71,34 +85,21 @@ impl Disk {
     /// Makes the file of this name grow by these bytes as soon as it is read.
     pub fn grow(&self, name: &str, bytes: &[u8]) -> io::Result<()> {
         let mut contents = self.contents()?;
-        let Some(number) = contents.number_of(name) else {
-            return refused(ErrorKind::NotFound);
-        };
-        match contents.files.get_mut(number) {
-            Some(stored) => Ok(stored.growth.extend_from_slice(bytes)?),
-            None => refused(ErrorKind::NotFound),
-        }
+        Ok(contents.file_of(name)?.growth.extend_from_slice(bytes)?)
     }
 
     /// Lets the file of this name end there when its end is sought, whatever bytes it gives: it is as if it became
     /// longer or shorter after that.
     pub fn end_at(&self, name: &str, end: u64) -> io::Result<()> {
-        let mut contents = self.contents()?;
-        let Some(number) = contents.number_of(name) else {
-            return refused(ErrorKind::NotFound);
-        };
-        match contents.files.get_mut(number) {
-            Some(stored) => {
-                stored.stated_end = Some(end);
-                Ok(())
-            }
-            None => refused(ErrorKind::NotFound),
-        }
+        self.contents()?.file_of(name)?.stated_end = Some(end);
+        Ok(())
     }
 
     /// Makes the call of this number fail, counted from 1 over all files, and no other.
     pub fn fail(&self, call: Call, number: u64) -> io::Result<()> {
-        self.contents()?.calls.failing = (call, number);
+        let mut calls = self.calls.get();
+        calls.failing = (call, number);
+        self.calls.set(calls);
         Ok(())
     }
 
@@ -114,9 +115,8 @@ impl Disk {
 
     /// The identity of the file of this number.
     pub(crate) fn identity(&self, number: usize) -> Option<FileIdentity> {
-        let contents = self.contents().ok()?;
         let inode = number as u64;
-        match contents.files.get(number)?.kind {
+        match self.contents().ok()?.kind_of(number)? {
             Kind::Plain => Some(FileIdentity::Regular { device: 1, inode }),
             Kind::Block => Some(FileIdentity::BlockDevice { number: inode }),
             Kind::Character | Kind::Folder => None,
@@ -125,14 +125,8 @@ impl Disk {
 
     /// The bytes of the file of this name.
     pub fn bytes_of(&self, name: &str) -> io::Result<Vec<u8>> {
-        let contents = self.contents()?;
-        let Some(number) = contents.number_of(name) else {
-            return refused(ErrorKind::NotFound);
-        };
-        match contents.files.get(number) {
-            Some(stored) => Ok(stored.bytes.to_vec(self.alloc)?),
-            None => refused(ErrorKind::NotFound),
-        }
+        let mut contents = self.contents()?;
+        Ok(contents.file_of(name)?.bytes.to_vec(self.alloc)?)
     }
 
     /// What was opened, in order, each in a line such as `hash: read write create`. An opening that failed counts. A
@@ -150,12 +144,7 @@ impl Disk {
 
     /// What the system says of the file of this number.
     pub(crate) fn metadata(&self, number: usize) -> io::Result<Metadata> {
-        let contents = self.contents()?;
-        match contents.files.get(number) {
-            Some(stored) if stored.is_folder() => Ok(Metadata::of_dir()),
-            Some(stored) => Ok(Metadata::of_file(stored.stated_length() as u64)),
-            None => refused(ErrorKind::NotFound),
-        }
+        Ok(self.contents()?.file(number)?.metadata())
     }
 
     /// What was written to standard error.
@@ -165,27 +154,35 @@ impl Disk {
 
     /// How often a call was made, over all files.
     pub fn calls(&self, call: Call) -> io::Result<u64> {
-        Ok(self.contents()?.calls.made(call))
+        Ok(self.calls.get().made(call))
     }
 
     /// How often the runtimes over this disk were asked for the step of the progress line.
     pub fn looks(&self) -> io::Result<u64> {
-        Ok(self.contents()?.looks)
+        Ok(self.looks.get())
     }
 
     /// How often the runtimes over this disk read the clock.
     pub fn clock_reads(&self) -> io::Result<u64> {
-        Ok(self.contents()?.clock_reads)
+        Ok(self.clock_reads.get())
     }
 
     /// How many random bytes the runtimes over this disk were asked for.
     pub fn random_bytes(&self) -> io::Result<u64> {
-        Ok(self.contents()?.random_bytes)
+        Ok(self.random_bytes.get())
+    }
+
+    /// Counts a call. The result is whether it fails.
+    fn fails(&self, call: Call) -> bool {
+        let mut calls = self.calls.get();
+        let fails = calls.fails(call);
+        self.calls.set(calls);
+        fails
     }
 
     /// Counts a call, and refuses the one that fails.
     pub(crate) fn count(&self, call: Call) -> io::Result<()> {
-        if self.contents()?.calls.fails(call) {
+        if self.fails(call) {
             return refused(ErrorKind::Other);
         }
         Ok(())
@@ -193,11 +190,11 @@ impl Disk {
 
     /// Opens a name. The result is the number of its file.
     pub(crate) fn open(&self, how: &OpenOptions, name: &str) -> io::Result<usize> {
-        let mut contents = self.contents()?;
-        let number = contents.open(self.alloc, how, name)?;
-        contents.follow(self.alloc, name)?;
-        contents.hold("open", number)?;
-        Ok(number)
+        self.contents()?.write_down(self.alloc, how, name)?;
+        if self.fails(Call::Open) {
+            return refused(ErrorKind::PermissionDenied);
+        }
+        self.contents()?.open(self.alloc, how, name)
     }
 
     /// Syncs the file of this number. It is recorded if it doesn't fail.

@@ -1,14 +1,9 @@
 //! An opened file.
-ghost use Rattle.std.specs.Prelude.{◌≤◌, length, IfOk};
-
 use crate::call::Call;
 use crate::disk::{Disk, refused};
 use std::fs::{Metadata, OpenFile};
 use std::io;
-use std::io::{Cursor, ErrorKind, Read, Seek, SeekFrom, Write};
-
-/// The largest offset of a file, which a folder gives as its end.
-const LAST_OFFSET: u64 = (1 << 63) - 1;
+use std::io::{ErrorKind, Read, Seek, SeekFrom, Write};
 
 /// A file of a disk, opened.
 pub struct MemoryFile<'a> {
@@ -55,28 +50,8 @@ impl Read for MemoryFile<'_> {
             return refused(ErrorKind::PermissionDenied);
         }
         let mut contents = self.disk.contents()?;
-        let Some(stored) = contents.files.get_mut(self.number) else {
-            return refused(ErrorKind::NotFound);
-        };
-        if stored.is_folder() {
-            return refused(ErrorKind::IsADirectory);
-        }
-        stored.grow()?;
-        let mut cursor = Cursor::new(stored.bytes.as_slice());
-        cursor.set_position(self.at);
-        let count = cursor.read(buf)?;
-        self.at = cursor.position();
-        Ok(count)
+        contents.file(self.number)?.read(&mut self.at, buf)
     }
-}
-
-/// Writes at an offset into some bytes, with zeros in a gap. The result is how many were written.
-fn put(bytes: &mut Vec<u8>, at: u64, buf: &[u8]) -> io::Result<usize>
-    ensures { IfOk result (λ count. count ≤ length buf.now) }
-{
-    let mut cursor = Cursor::new(bytes);
-    cursor.set_position(at);
-    cursor.write(buf)
 }
 
 impl Write for MemoryFile<'_> {
@@ -86,12 +61,7 @@ impl Write for MemoryFile<'_> {
             return refused(ErrorKind::PermissionDenied);
         }
         let mut contents = self.disk.contents()?;
-        let Some(stored) = contents.files.get_mut(self.number) else {
-            return refused(ErrorKind::NotFound);
-        };
-        let count = put(&mut stored.bytes, self.at, buf)?;
-        self.at = self.at.saturating_add(count as u64);
-        Ok(count)
+        contents.file(self.number)?.write(&mut self.at, buf)
     }
 
     fn flush(&mut self) -> io::Result<()> {
@@ -102,23 +72,8 @@ impl Write for MemoryFile<'_> {
 impl Seek for MemoryFile<'_> {
     fn seek(&mut self, to: SeekFrom) -> io::Result<u64> {
         self.disk.count(Call::Seek)?;
-        let contents = self.disk.contents()?;
-        let Some(stored) = contents.files.get(self.number) else {
-            return refused(ErrorKind::NotFound);
-        };
-        if stored.is_folder() && to == SeekFrom::End(0) {
-            return Ok(LAST_OFFSET);
-        }
-        if let Some(end) = stored.stated_end
-            && to == SeekFrom::End(0)
-        {
-            self.at = end;
-            return Ok(end);
-        }
-        let mut cursor = Cursor::new(stored.bytes.as_slice());
-        cursor.set_position(self.at);
-        self.at = cursor.seek(to)?;
-        Ok(self.at)
+        let mut contents = self.disk.contents()?;
+        contents.file(self.number)?.seek(&mut self.at, to)
     }
 }
 

@@ -10,6 +10,7 @@ mod file;
 mod kind;
 mod runtime;
 mod standard_error;
+mod stored;
 
 pub use call::Call;
 pub use disk::Disk;

@@ -2,7 +2,7 @@
 ghost use Rattle.std.specs.Io.{WritesAtMost};
 
 use crate::call::Call;
-use crate::disk::{Disk, refused};
+use crate::disk::{Disk, add, refused};
 use crate::file::MemoryFile;
 use crate::standard_error::StandardError;
 use command_line::{FileIdentity, Identities, ProgressRuntime};
@@ -63,8 +63,7 @@ impl RandomSource for MemoryRuntime<'_> {
         if self.random.is_empty() {
             return refused(ErrorKind::Unsupported);
         }
-        let mut contents = self.disk.contents()?;
-        contents.random_bytes = contents.random_bytes.saturating_add(buf.len() as u64);
+        add(&self.disk.random_bytes, buf.len() as u64);
         for (i, byte) in buf.iter_mut().enumerate() {
             let place = i.checked_rem(self.random.len()).unwrap_or(0);
             *byte = self.random.get(place).copied().unwrap_or(0);
@@ -174,9 +173,8 @@ impl Identities for MemoryRuntime<'_> {
 /// Half a second passes between two readings of the clock.
 impl Clock for MemoryRuntime<'_> {
     fn monotonic(&self) -> io::Result<Duration> {
-        let mut contents = self.disk.contents()?;
-        contents.clock_reads = contents.clock_reads.saturating_add(1);
-        Ok(Duration::from_millis(contents.clock_reads.saturating_mul(500)))
+        let reads = add(&self.disk.clock_reads, 1);
+        Ok(Duration::from_millis(reads.saturating_mul(500)))
     }
 
     fn since_1970(&self) -> io::Result<Duration> {
@@ -196,9 +194,7 @@ impl Eprint for MemoryRuntime<'_> {
 
 impl ProgressRuntime for MemoryRuntime<'_> {
     fn step(&self) -> Option<u64> {
-        if let Ok(mut contents) = self.disk.contents() {
-            contents.looks = contents.looks.saturating_add(1);
-        }
+        add(&self.disk.looks, 1);
         self.step
     }
 }
