@@ -107,7 +107,7 @@ impl Setup {
         outputs: Outputs,
     ) -> Result<(), AllocError> {
         let alloc = scene.alloc;
-        scene.has_file("tree", vec![in alloc; 77u8; 5000]?)?;
+        scene.adds_file("tree", vec![in alloc; 77u8; 5000]?)?;
         for file in files {
             let pass = scene.opens_files(*file, outputs)?;
             self.prints_line(scene, form, *file, pass, outputs.1)?;
@@ -160,7 +160,7 @@ impl Scene {
     fn names(&mut self, file: Named) -> Result<(), AllocError> {
         self.words.push(' ')?;
         self.words.push_str(file.name)?;
-        self.has_file(file.name, data(self.alloc, file.length)?)
+        self.adds_file(file.name, data(self.alloc, file.length)?)
     }
 
     /// The system is asked of each output file that is wanted whether it is a folder; then each is opened and emptied.

@@ -20,7 +20,7 @@ fn is_an_end(status: u8, may: &[u8], msgs: &[u8]) -> bool {
     may.contains(&status) && lines == 1 && msgs.ends_with(b"\n")
 }
 
-/// Whether a dump of a hash device ends as it may, with a report if its status is 0.
+/// Whether a dump of a hash device ends as it may, with a report just if its status is 0.
 fn is_dumped(alloc: Global, device: &mut MemoryDevice) -> bool {
     let mut out = Vec::new(alloc);
     let mut msgs = Vec::new(alloc);

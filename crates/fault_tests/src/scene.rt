@@ -68,7 +68,7 @@ impl Scene {
     }
 
     /// One more file is there before the run.
-    pub fn has_file(&mut self, name: &'static str, bytes: Vec<u8>) -> Result<(), AllocError> {
+    pub fn adds_file(&mut self, name: &'static str, bytes: Vec<u8>) -> Result<(), AllocError> {
         self.files.push((name, bytes))?;
         Ok(())
     }

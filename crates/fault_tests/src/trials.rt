@@ -100,10 +100,15 @@ impl Scene {
     }
 
     /// An error if a trial doesn't end as the steps say: the command, the call that fails and its number, the room for
-    /// the output and for the messages, and what is wrong.
+    /// the output, whether nothing is taken at its end, the room for the messages, and what is wrong.
     fn try_one(&self, trial: Trial, whole: &Ending) -> Result<(), Fail> {
         let wrong = self.wrong(&trial, whole)?;
-        let faults = (trial.failing, trial.room, trial.message_room);
+        let faults = (
+            trial.failing,
+            trial.room,
+            trial.takes_nothing,
+            trial.message_room,
+        );
         same(format_args!("{}, {faults:?}", self.words), wrong, None)
     }
 

@@ -97,9 +97,9 @@ impl Setup {
     fn adds_files(&self, scene: &mut Scene) -> Result<(), AllocError> {
         let alloc = scene.alloc;
         let length = self.covered().saturating_add(self.more);
-        scene.has_file("data", data(alloc, length)?)?;
+        scene.adds_file("data", data(alloc, length)?)?;
         match self.before {
-            Some(length) => scene.has_file(HASH, vec![in alloc; 77u8; length]?),
+            Some(length) => scene.adds_file(HASH, vec![in alloc; 77u8; length]?),
             None => Ok(()),
         }
     }

@@ -159,10 +159,10 @@ fn output_files_are_opened_to_be_written_alone(rt: HostRuntime) -> Result<(), Fa
     let disk = disk(alloc)?;
     let status = run(alloc, &disk, BOTH_OUTPUTS).status;
     let opened = disk.opened()?;
-    let expected = "/: read\n/: read\n/: read\ntwo: read\n\
-                    tree: write truncate\ntree: write truncate create\n\
+    let after = opened.as_str().strip_prefix(TWO_READ);
+    let expected = "tree: write truncate\ntree: write truncate create\n\
                     made: write truncate\nmade: write truncate create\n";
-    same(BOTH_OUTPUTS, (status, opened.as_str()), (0, expected))
+    same(BOTH_OUTPUTS, (status, after), (0, Some(expected)))
 }
 
 /// The number of the question that the system doesn't answer: of the input file, and of each output file. Then the

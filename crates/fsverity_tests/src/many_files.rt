@@ -50,7 +50,7 @@ fn run_with_names<'a>(
 const NAMES: [&str; 3] = ["empty", "void", "nothing"];
 
 /// Adds a file's name, its line, and its opening.
-fn add(
+fn add_file(
     alloc: Global,
     name: &str,
     names: &mut Vec<String>,
@@ -71,7 +71,7 @@ fn each_of_5000_files_has_its_line(rt: HostRuntime) -> Result<(), Fail> {
     let mut opened = String::from_str(alloc, "/: read\n/: read\n/: read\n")?;
     for number in 0..5_000usize {
         let name = NAMES[number % 3];
-        add(alloc, name, &mut names, &mut lines, &mut opened)?;
+        add_file(alloc, name, &mut names, &mut lines, &mut opened)?;
     }
     let disk = disk(alloc)?;
     let names = names.as_slice();

@@ -40,7 +40,7 @@ fn push_option(
     Ok(())
 }
 
-/// Adds the words of a set of options, in the order in which this one is the first.
+/// Adds the words of a set of options, by rising numbers if `first` is 0, or by falling ones if it is the last number.
 fn push_options(
     words: &mut Vec<&'static str>,
     set: u32,

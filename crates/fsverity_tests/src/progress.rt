@@ -23,12 +23,13 @@ fn written(alloc: Global, run: Run, step: Option<u64>) -> io::Result<(Vec<u8>, u
     disk.fail(Call::Write, failing)?;
     let mut runtime = MemoryRuntime::new(alloc, &disk, words);
     runtime.step = step;
-    let is_done = is_done(alloc, &disk, &runtime, is_elsewhere);
+    let is_done = run_done(alloc, &disk, &runtime, is_elsewhere);
     Ok((disk.standard_error()?, disk.looks()?, is_done))
 }
 
-/// Whether a run that writes to standard error ends with status 0 and a line if its lines go elsewhere.
-fn is_done(alloc: Global, disk: &Disk, runtime: &MemoryRuntime<'_>, is_elsewhere: bool) -> bool {
+/// Runs the program, which writes to standard error. If its lines go elsewhere, the result is whether it ends with
+/// status 0 and a line there; otherwise it is true.
+fn run_done(alloc: Global, disk: &Disk, runtime: &MemoryRuntime<'_>, is_elsewhere: bool) -> bool {
     let progress = ShownProgress::new(runtime);
     let mut msgs = ErasingWriter::new(&progress, StandardError::new(disk));
     let mut lines = Vec::new(alloc);
@@ -83,7 +84,7 @@ const RUNS: [(Run, (&[u64], u64), &str); 9] = [
 ];
 
 /// Whether what a run writes to a pipe begins so, without a progress line, and what a terminal gets then.
-fn told_before(
+fn expected_of(
     alloc: Global,
     run: Run,
     hundredths: &[u64],
@@ -103,9 +104,9 @@ fn check_told(
     total: u64,
     start: &str,
 ) -> Result<(), Fail> {
-    let (is_as_started, expected) = told_before(alloc, run, hundredths, total, start)?;
+    let (is_told_plainly, expected) = expected_of(alloc, run, hundredths, total, start)?;
     let (shown, looks, is_done) = written(alloc, run, Some(STEP))?;
-    let found = (is_as_started, is_done, looks, shown);
+    let found = (is_told_plainly, is_done, looks, shown);
     same(run.0, found, (true, true, 1, expected))
 }
 

@@ -36,7 +36,7 @@ fn is_kept(alloc: Global, at: u64, block: &[u8]) -> Result<bool, Fail> {
 }
 
 /// Tries a block at each offset. The last one is that at which it ends at the largest offset.
-fn each_offset(alloc: Global, block: &[u8]) -> Result<(), Fail> {
+fn try_offsets(alloc: Global, block: &[u8]) -> Result<(), Fail> {
     let last = MOST_BYTES.saturating_sub(block.len() as u64);
     for &at in OFFSETS.iter().chain(&[last]) {
         let is_kept = is_kept(alloc, at, block)?;
@@ -49,7 +49,7 @@ fn each_offset(alloc: Global, block: &[u8]) -> Result<(), Fail> {
 fn blocks_of_each_length_stand_at_each_offset(rt: HostRuntime) -> Result<(), Fail> {
     let alloc = rt.alloc();
     for &length in &LENGTHS {
-        each_offset(alloc, data(alloc, length)?.as_slice())?;
+        try_offsets(alloc, data(alloc, length)?.as_slice())?;
     }
     Ok(())
 }
@@ -82,7 +82,7 @@ fn differs(
 }
 
 /// Writes a block of 70000 bytes at a far offset of a file that takes so many bytes in each call, and reads it.
-fn far_offset(alloc: Global, block: &[u8], most: usize) -> Result<(), Fail> {
+fn try_far_offset(alloc: Global, block: &[u8], most: usize) -> Result<(), Fail> {
     if block.len() != 70_000 {
         return Err("70000 bytes".into());
     }
@@ -104,7 +104,7 @@ fn far_offset(alloc: Global, block: &[u8], most: usize) -> Result<(), Fail> {
 fn long_blocks_stand_at_far_offsets(rt: HostRuntime) -> Result<(), Fail> {
     let block = data(rt.alloc(), 70_000)?;
     for &most in &[usize::MAX, 1_000] {
-        far_offset(rt.alloc(), block.as_slice(), most)?;
+        try_far_offset(rt.alloc(), block.as_slice(), most)?;
     }
     Ok(())
 }

@@ -59,7 +59,11 @@ fn superblocks_are_refused() -> Result<(), Fail> {
     for (changes, fault) in &REFUSED {
         let mut bytes = one_block();
         lay(&mut bytes[..], changes);
-        same("changes", read_superblock(&bytes), Err(*fault))?;
+        same(
+            format_args!("{fault:?}"),
+            read_superblock(&bytes),
+            Err(*fault),
+        )?;
     }
     Ok(())
 }
@@ -78,7 +82,7 @@ const DESCRIPTORS: [(Algorithm, &[u8], u32, u64, [u8; 4]); 2] = [
 ];
 
 /// Compares the bytes of a descriptor, and the file digest, with those expected.
-fn described(
+fn compare_descriptor(
     tree: &TreeSettings,
     size: u64,
     root: &[u8],
@@ -99,7 +103,7 @@ fn descriptors_are_written_and_hashed(rt: HostRuntime) -> Result<(), Fail> {
         let expected = descriptor(alloc, &head, size, root.as_slice(), salt)?;
         let digest = expected_digest(alloc, algorithm, (b"", expected.as_slice(), b""))?;
         let expected = (expected.as_slice(), digest.as_slice());
-        described(&tree, size, root.as_slice(), expected)?;
+        compare_descriptor(&tree, size, root.as_slice(), expected)?;
     }
     Ok(())
 }

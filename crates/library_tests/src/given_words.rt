@@ -68,7 +68,7 @@ fn given<'a>(
 }
 
 /// Compares the words that are given after the program's name with these.
-fn are_given(alloc: Global, words: &[String]) -> Result<(), Fail> {
+fn compare_words(alloc: Global, words: &[String]) -> Result<(), Fail> {
     let disk = Disk::new(alloc);
     let given = given(alloc, &disk, words)?;
     for (number, word) in words.iter().enumerate() {
@@ -86,7 +86,7 @@ fn as_many_words_are_given_as_linux_gives(rt: HostRuntime) -> Result<(), Fail> {
     let alloc = rt.alloc();
     let words = numbered(alloc, MORE_THAN_GIVEN)?;
     same("the words", words.len(), MORE_THAN_GIVEN)?;
-    are_given(alloc, words.as_slice())
+    compare_words(alloc, words.as_slice())
 }
 
 /// Among them words that fill 256, 512, 1024, 2048 and 4096 bytes.
@@ -96,5 +96,5 @@ fn words_of_each_length_are_given_whole(rt: HostRuntime) -> Result<(), Fail> {
     let words = of_each_length(alloc, 4_100)?;
     let longest = words.last().map(String::len);
     same("the longest", longest, Some(4_099))?;
-    are_given(alloc, words.as_slice())
+    compare_words(alloc, words.as_slice())
 }

@@ -31,7 +31,7 @@ fn cut(bytes: &[u8], from: usize, to: usize) -> Message<'_> {
 }
 
 /// Compares the digest of some bytes, cut at two places, with what is expected.
-fn has_digits(
+fn compare_digits(
     alloc: Global,
     function: Algorithm,
     bytes: &[u8],
@@ -53,7 +53,7 @@ fn the_standards_examples_cut_at_each_pair_of_places(rt: HostRuntime) -> Result<
         let (message, digits) = (example.message, example.digits);
         for to in 0..=message.len() {
             for from in 0..=to {
-                has_digits(rt.alloc(), example.function, message, (from, to), digits)?;
+                compare_digits(rt.alloc(), example.function, message, (from, to), digits)?;
             }
         }
     }
@@ -89,7 +89,7 @@ fn a_million_letters_have_their_digest(rt: HostRuntime) -> Result<(), Fail> {
     let letters = vec![in rt.alloc(); b'a'; 1_000_000]?;
     for &(function, digits) in &MILLION {
         for places in &PLACES {
-            has_digits(rt.alloc(), function, letters.as_slice(), *places, digits)?;
+            compare_digits(rt.alloc(), function, letters.as_slice(), *places, digits)?;
         }
     }
     Ok(())
@@ -103,7 +103,7 @@ const BORDERS: [usize; 26] = [
 
 /// Compares the digests of some bytes by each function with those of `sha1` or `sha2`, with the salt before the bytes,
 /// after them, and both. The bytes are the first piece, the second or the third.
-fn are_right(alloc: Global, salt: &[u8], bytes: &[u8]) -> Result<(), Fail> {
+fn compare_functions(alloc: Global, salt: &[u8], bytes: &[u8]) -> Result<(), Fail> {
     let none = &salt[..0];
     let messages = [
         (salt, bytes, none),
@@ -124,12 +124,12 @@ fn are_right(alloc: Global, salt: &[u8], bytes: &[u8]) -> Result<(), Fail> {
 
 /// Takes a salt with each border, as the length of the bytes and as that of whole messages, with one salt or two, after
 /// 512 bytes.
-fn each_border(alloc: Global, salt: &[u8], all: &[u8]) -> Result<(), Fail> {
+fn try_borders(alloc: Global, salt: &[u8], all: &[u8]) -> Result<(), Fail> {
     for &border in &BORDERS {
         let one = border.saturating_add(512).saturating_sub(salt.len());
         for &len in &[border, one, one.saturating_sub(salt.len())] {
             let bytes = all.get(5..len.saturating_add(5)).ok_or("bytes")?;
-            are_right(alloc, salt, bytes)?;
+            compare_functions(alloc, salt, bytes)?;
         }
     }
     Ok(())
@@ -140,7 +140,7 @@ fn lengths_round_the_borders_of_blocks_and_groups(rt: HostRuntime) -> Result<(),
     let all = data(rt.alloc(), 1550)?;
     for &salt_len in &SALTS {
         let salt = all.get(13..salt_len.saturating_add(13)).ok_or("a salt")?;
-        each_border(rt.alloc(), salt, all.as_slice())?;
+        try_borders(rt.alloc(), salt, all.as_slice())?;
     }
     Ok(())
 }

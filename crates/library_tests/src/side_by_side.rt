@@ -60,7 +60,7 @@ fn hashed_as_part(
 }
 
 /// Compares the digest of the example's message, as part `j` of `count`.
-fn has_digits(alloc: Global, example: &Example, j: usize, count: usize) -> Result<(), Fail> {
+fn compare_digits(alloc: Global, example: &Example, j: usize, count: usize) -> Result<(), Fail> {
     let all = hashed_as_part(alloc, example, j, count)?;
     let size = example.digits.len() / 2;
     let from = size.saturating_mul(j);
@@ -78,7 +78,7 @@ fn the_standards_examples_in_each_lane(rt: HostRuntime) -> Result<(), Fail> {
     for example in &EXAMPLES {
         for count in 1..=8usize {
             for j in 0..count {
-                has_digits(rt.alloc(), example, j, count)?;
+                compare_digits(rt.alloc(), example, j, count)?;
             }
         }
     }
@@ -108,7 +108,7 @@ fn one_by_one(
 }
 
 /// Compares the digests of this many parts by a function, with bytes around each, with those of `sha1` or `sha2`.
-fn are_the_same(
+fn compare_parts(
     alloc: Global,
     function: Algorithm,
     around: Around<'_>,
@@ -124,10 +124,10 @@ fn are_the_same(
 
 /// Compares the digests of this many parts by each function with those of `sha1` or `sha2`, with the salt before the
 /// parts, after them, and both.
-fn all_are_the_same(alloc: Global, salt: &[u8], len: usize, count: usize) -> Result<(), Fail> {
+fn compare_functions(alloc: Global, salt: &[u8], len: usize, count: usize) -> Result<(), Fail> {
     for function in &FUNCTIONS {
         for around in &[(salt, &salt[..0]), (&salt[..0], salt), (salt, salt)] {
-            are_the_same(alloc, *function, *around, len, count)?;
+            compare_parts(alloc, *function, *around, len, count)?;
         }
     }
     Ok(())
@@ -135,12 +135,12 @@ fn all_are_the_same(alloc: Global, salt: &[u8], len: usize, count: usize) -> Res
 
 /// Takes a salt with each border, as the length of the parts and as that of whole messages after 256 bytes. The number
 /// of messages is another one with each turn, from one to eight.
-fn each_border(alloc: Global, salt: &[u8], turn: &mut usize) -> Result<(), Fail> {
+fn try_borders(alloc: Global, salt: &[u8], turn: &mut usize) -> Result<(), Fail> {
     for &border in &BORDERS {
         let message = border.saturating_add(256).saturating_sub(salt.len());
         for &len in &[border, message] {
             let count = (*turn % 8).saturating_add(1);
-            all_are_the_same(alloc, salt, len, count)?;
+            compare_functions(alloc, salt, len, count)?;
             *turn = turn.saturating_add(3);
         }
     }
@@ -153,7 +153,7 @@ fn lengths_round_the_borders_of_blocks(rt: HostRuntime) -> Result<(), Fail> {
     let mut turn = 0usize;
     for &salt_len in &SALTS {
         let salt = salts.get(13..salt_len.saturating_add(13)).ok_or("a salt")?;
-        each_border(rt.alloc(), salt, &mut turn)?;
+        try_borders(rt.alloc(), salt, &mut turn)?;
     }
     Ok(())
 }

@@ -1,4 +1,5 @@
 //! What a disk holds, and what was done to it.
+use crate::disk::refused;
 use crate::kind::Kind;
 use crate::stored::Stored;
 use std::alloc::{AllocError, Global};
@@ -44,7 +45,7 @@ fn asks_usual_mode(alloc: Global, how: &OpenOptions) -> Result<bool, AllocError>
     Ok(format!(in alloc; "{how:?}")?.as_str().ends_with(USUAL_MODE))
 }
 
-/// Files with their names, and what was opened.
+/// Files with their names, and what was opened and written to standard error.
 #[derive(Drop)]
 pub struct Contents {
     names: Names,
@@ -80,7 +81,7 @@ impl Contents {
     pub fn file(&mut self, number: usize) -> io::Result<&mut Stored> {
         match self.files.get_mut(number) {
             Some(stored) => Ok(stored),
-            None => Err(io::Error::from(ErrorKind::NotFound)),
+            None => refused(ErrorKind::NotFound),
         }
     }
 
@@ -88,7 +89,7 @@ impl Contents {
     pub fn file_of(&mut self, name: &str) -> io::Result<&mut Stored> {
         match self.number_of(name) {
             Some(number) => self.file(number),
-            None => Err(io::Error::from(ErrorKind::NotFound)),
+            None => refused(ErrorKind::NotFound),
         }
     }
 
@@ -101,7 +102,7 @@ impl Contents {
     pub fn link(&mut self, alloc: Global, name: &str, other: &str) -> io::Result<()> {
         match self.number_of(name) {
             Some(number) => Ok(add(&mut self.names, alloc, other, number)?),
-            None => Err(io::Error::from(ErrorKind::NotFound)),
+            None => refused(ErrorKind::NotFound),
         }
     }
 
@@ -121,7 +122,7 @@ impl Contents {
     }
 
     /// Lets names lead elsewhere, as they do once this name is opened.
-    pub fn follow(&mut self, alloc: Global, opened: &str) -> Result<(), AllocError> {
+    fn follow(&mut self, alloc: Global, opened: &str) -> Result<(), AllocError> {
         for (first, name, other) in &self.leads {
             if first.as_str() == opened
                 && let Some(number) = number_in(&self.names, other.as_str())
@@ -192,7 +193,7 @@ impl Contents {
     /// Makes a file of this name if that is asked for. The result is its number.
     fn make_if_asked(&mut self, alloc: Global, how: &OpenOptions, name: &str) -> io::Result<usize> {
         if !how.asks_create() && !how.asks_create_new() {
-            return Err(io::Error::from(ErrorKind::NotFound));
+            return refused(ErrorKind::NotFound);
         }
         let stored = Stored::new(alloc, Kind::Plain, Vec::new(alloc));
         Ok(self.make(alloc, name, stored)?)

@@ -1,6 +1,7 @@
 //! A file of a disk.
 ghost use Rattle.std.specs.Io.{ReadsAtMost, WritesAtMost};
 
+use crate::disk::refused;
 use crate::kind::Kind;
 use std::alloc::{AllocError, Global};
 use std::fs::{Metadata, OpenOptions};
@@ -56,10 +57,10 @@ impl Stored {
     /// Opens it, which empties it if that is asked for.
     pub fn open(&mut self, how: &OpenOptions) -> io::Result<()> {
         if how.asks_create_new() {
-            return Err(io::Error::from(ErrorKind::AlreadyExists));
+            return refused(ErrorKind::AlreadyExists);
         }
         if self.is_folder() && how.asks_write() {
-            return Err(io::Error::from(ErrorKind::IsADirectory));
+            return refused(ErrorKind::IsADirectory);
         }
         if how.asks_truncate() {
             self.bytes.clear();
@@ -79,7 +80,7 @@ impl Stored {
         ensures { ReadsAtMost result buf.new }
     {
         if self.is_folder() {
-            return Err(io::Error::from(ErrorKind::IsADirectory));
+            return refused(ErrorKind::IsADirectory);
         }
         self.grow()?;
         let mut cursor = Cursor::new(self.bytes.as_slice());

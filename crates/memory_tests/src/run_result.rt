@@ -18,7 +18,8 @@ pub enum RunResult {
     Wrong,
 }
 
-/// Ends a test, which fails if its run wasn't whole: `tests/memory.sh` reads how the run ended from the assertion.
+/// Fails a test whose run wasn't whole. This is an assertion, not `same`, because `tests/memory.sh` reads how the run
+/// ended from its line `left:`.
 pub fn ends_whole<R: Abort>(rt: &R, found: RunResult) {
     assert_eq!(rt; found, RunResult::Whole);
 }

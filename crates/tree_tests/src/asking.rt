@@ -95,7 +95,7 @@ fn goes_on(
 }
 
 /// An error unless a file that grows has its root hash at each size, asked for twice, and zeros before the first byte.
-fn grows(alloc: Global, row: &Row, sizes: &[(usize, usize)]) -> Result<(), Fail> {
+fn try_growing(alloc: Global, row: &Row, sizes: &[(usize, usize)]) -> Result<(), Fail> {
     let settings = *plan_of(row)?.settings();
     let mut memory = vec![in alloc; 0xa5u8; FileBuilder::memory_length(&settings)]?;
     let memory = memory.as_mut_slice();
@@ -113,7 +113,7 @@ fn grows(alloc: Global, row: &Row, sizes: &[(usize, usize)]) -> Result<(), Fail>
 #[test]
 fn files_have_a_root_hash_at_any_time(rt: HostRuntime) -> Result<(), Fail> {
     for (row, sizes) in &GROWING {
-        grows(rt.alloc(), row, sizes)?;
+        try_growing(rt.alloc(), row, sizes)?;
     }
     Ok(())
 }
@@ -125,7 +125,7 @@ fn last_of(fed: u64, closed: usize) -> Result<Result<Option<HashBlock>, FeedFaul
 }
 
 #[test]
-fn the_last_hash_block_goes_by_the_numbers(_rt: HostRuntime) -> Result<(), Fail> {
+fn the_last_hash_block_goes_by_the_numbers() -> Result<(), Fail> {
     let block = |level, index, start, at| {
         Ok(Some(HashBlock {
             level,

@@ -100,8 +100,8 @@ pub fn root_of(tree: &Tree) -> Result<Digest, Fail> {
     Ok(Digest::from_bytes(tree.root.as_slice()).ok_or("a root hash")?)
 }
 
-/// A row and its plan, whose hash area begins after one hash block; its data, and the tree made from plain lists, with its
-/// root hash.
+/// A row and its plan, whose hash area begins after one hash block; its data, and the tree made from plain lists, with
+/// its root hash.
 #[derive(Drop)]
 pub struct Case {
     pub row: Row,

@@ -83,8 +83,8 @@ fn write(to: &mut MemoryDevice, memory: &[u8], block: HashBlock, size: usize) ->
     Ok(written.map_err(|_| "cannot write")?)
 }
 
-/// A builder that is fed in pieces and hands out the hash blocks of a plan. Memory of another length than it wants is an
-/// error.
+/// A builder that is fed in pieces and hands out the hash blocks of a plan. Memory of another length than it wants is
+/// an error.
 pub trait Builder {
     /// Feeds a piece.
     fn take(&mut self, memory: &mut [u8], piece: &[u8]) -> Result<Fed, Fail>;
@@ -162,7 +162,7 @@ pub fn feed_all<B: Builder>(
     Ok(last)
 }
 
-/// The digest of some data that is fed so. It is asked for twice.
+/// The digest of some data that is fed in pieces by `feed_all`. It is asked for twice.
 pub fn digest_of<B: Builder>(
     builder: &mut B,
     memory: &mut [u8],
@@ -192,7 +192,7 @@ fn has_tree(alloc: Global, case: &Case, piece: usize) -> Result<bool, Fail> {
 }
 
 /// The root hash of a file that is fed in pieces of a length. It is asked for after each of them, or only at the end.
-fn file_digest(alloc: Global, case: &Case, piece: usize, is_asked: bool) -> Result<Digest, Fail> {
+fn file_root(alloc: Global, case: &Case, piece: usize, is_asked: bool) -> Result<Digest, Fail> {
     let (settings, mut rest) = (case.plan.settings(), case.data.as_slice());
     let mut memory = vec![in alloc; 0xa5u8; FileBuilder::memory_length(settings)]?;
     let memory = memory.as_mut_slice();
@@ -212,11 +212,11 @@ fn file_digest(alloc: Global, case: &Case, piece: usize, is_asked: bool) -> Resu
 }
 
 /// An error unless a tree that is built in pieces of a length is that from plain lists, and so is a file's root hash.
-fn is_built(alloc: Global, case: &Case, piece: usize) -> Result<(), Fail> {
+fn try_pieces(alloc: Global, case: &Case, piece: usize) -> Result<(), Fail> {
     let row = &case.row;
     let mut is_right = has_tree(alloc, case, piece)?;
     for is_asked in [false, true] {
-        if row.0 == PADDED && file_digest(alloc, case, piece, is_asked)? != case.root {
+        if row.0 == PADDED && file_root(alloc, case, piece, is_asked)? != case.root {
             is_right = false;
         }
     }
@@ -224,11 +224,11 @@ fn is_built(alloc: Global, case: &Case, piece: usize) -> Result<(), Fail> {
 }
 
 /// An error unless all rows' trees are built in pieces of each length.
-fn are_built(alloc: Global, rows: &[Row], pieces: &[usize]) -> Result<(), Fail> {
+fn try_rows(alloc: Global, rows: &[Row], pieces: &[usize]) -> Result<(), Fail> {
     for row in rows {
         let case = Case::new(alloc, row)?;
         for &piece in pieces {
-            is_built(alloc, &case, piece)?;
+            try_pieces(alloc, &case, piece)?;
         }
     }
     Ok(())
@@ -236,12 +236,12 @@ fn are_built(alloc: Global, rows: &[Row], pieces: &[usize]) -> Result<(), Fail> 
 
 #[test]
 fn trees_are_built_in_pieces(rt: HostRuntime) -> Result<(), Fail> {
-    are_built(rt.alloc(), &SHAPES, &PIECES)
+    try_rows(rt.alloc(), &SHAPES, &PIECES)
 }
 
 #[test]
 fn trees_of_several_windows_are_built_in_pieces(rt: HostRuntime) -> Result<(), Fail> {
-    are_built(rt.alloc(), &WINDOWS, &LENGTHS)
+    try_rows(rt.alloc(), &WINDOWS, &LENGTHS)
 }
 
 /// The function, the size of a block, and how long the memory for a file is.
@@ -255,7 +255,7 @@ const MEMORY: [(Algorithm, u32, usize); 6] = [
 ];
 
 #[test]
-fn memory_has_room_for_open_blocks_and_a_window(_rt: HostRuntime) -> Result<(), Fail> {
+fn memory_has_room_for_open_blocks_and_a_window() -> Result<(), Fail> {
     for &(algorithm, block, expected) in &MEMORY {
         let settings = TreeSettings::fsverity(algorithm, b"", block)?;
         let length = FileBuilder::memory_length(&settings);

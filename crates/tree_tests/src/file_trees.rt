@@ -211,9 +211,9 @@ fn put_all(
     Ok(fed.ask()? == case.tree.levels.len() && fed.end()?? == case.root)
 }
 
-/// An error unless a file that is fed in pieces of a length hands out, with the last hash blocks of all levels, each hash
-/// block of its tree once, and has its root hash.
-fn is_whole(alloc: Global, case: &Case, piece: usize, is_asked: bool) -> Result<(), Fail> {
+/// An error unless a file that is fed in pieces of a length hands out, with the last hash blocks of all levels, each
+/// hash block of its tree once, and has its root hash.
+fn try_pieces(alloc: Global, case: &Case, piece: usize, is_asked: bool) -> Result<(), Fail> {
     let (row, size) = (&case.row, case.shape.hash_block);
     let expected = case.tree.on_device(alloc, size)?;
     let mut placed = Placed {
@@ -235,7 +235,7 @@ fn trees_of_files_are_handed_out_in_pieces(rt: HostRuntime) -> Result<(), Fail> 
         let case = Case::new(rt.alloc(), row)?;
         for &piece in &PIECES {
             for is_asked in [false, true] {
-                is_whole(rt.alloc(), &case, piece, is_asked)?;
+                try_pieces(rt.alloc(), &case, piece, is_asked)?;
             }
         }
     }
@@ -247,7 +247,7 @@ fn trees_of_files_of_several_windows_are_handed_out(rt: HostRuntime) -> Result<(
     for row in &LARGER {
         let case = Case::new(rt.alloc(), row)?;
         for &piece in &LENGTHS {
-            is_whole(rt.alloc(), &case, piece, piece > 4097)?;
+            try_pieces(rt.alloc(), &case, piece, piece > 4097)?;
         }
     }
     Ok(())
@@ -301,7 +301,7 @@ fn goes_on(alloc: Global, fed: &mut Fed, row: &Row, before: usize) -> Result<boo
 }
 
 /// An error unless a file that grows has its last hash blocks at each size.
-fn grows(alloc: Global, row: &Row, sizes: &[(usize, usize)]) -> Result<(), Fail> {
+fn try_growing(alloc: Global, row: &Row, sizes: &[(usize, usize)]) -> Result<(), Fail> {
     let mut fed = Fed::new(alloc, plan_of(row)?.settings())?;
     let (mut is_right, mut before) = (true, 0);
     for &size in sizes {
@@ -315,7 +315,7 @@ fn grows(alloc: Global, row: &Row, sizes: &[(usize, usize)]) -> Result<(), Fail>
 #[test]
 fn files_have_their_last_hash_blocks_at_any_time(rt: HostRuntime) -> Result<(), Fail> {
     for (row, sizes) in &GROWING {
-        grows(rt.alloc(), row, sizes)?;
+        try_growing(rt.alloc(), row, sizes)?;
     }
     Ok(())
 }
@@ -332,7 +332,7 @@ fn faults(alloc: Global, fed: u64, closed: usize, count: usize) -> Result<Faults
     faults_of(&mut run, piece.as_slice())
 }
 
-/// The same of one that was made, with its piece.
+/// The same faults, of a builder that has its numbers, for this piece.
 fn faults_of(run: &mut Fed, piece: &[u8]) -> Result<Faults, Fail> {
     let builder = run.builder;
     let last = [run.end()?.err(), run.end_block(1)?.err()];

@@ -165,7 +165,7 @@ fn is_built(
 }
 
 /// An error unless a row's tree is built from the parts of each level, and from that of the one above the top.
-fn each_level_is_built(alloc: Global, row: &Row, piece: usize, count: usize) -> Result<(), Fail> {
+fn try_levels(alloc: Global, row: &Row, piece: usize, count: usize) -> Result<(), Fail> {
     let case = Case::new(alloc, row)?;
     for level in 0..case.plan.levels().saturating_add(1) {
         let built = is_built(alloc, &case, level, piece, count)?;
@@ -179,7 +179,7 @@ fn each_level_is_built(alloc: Global, row: &Row, piece: usize, count: usize) -> 
 fn parts_are_built_in_pieces(rt: HostRuntime) -> Result<(), Fail> {
     for row in &SHAPES {
         for &piece in &PIECES {
-            each_level_is_built(rt.alloc(), row, piece, 1000)?;
+            try_levels(rt.alloc(), row, piece, 1000)?;
         }
     }
     Ok(())
@@ -189,7 +189,7 @@ fn parts_are_built_in_pieces(rt: HostRuntime) -> Result<(), Fail> {
 fn parts_are_joined(rt: HostRuntime) -> Result<(), Fail> {
     for row in &SHAPES {
         for &count in &COUNTS {
-            each_level_is_built(rt.alloc(), row, 4096, count)?;
+            try_levels(rt.alloc(), row, 4096, count)?;
         }
     }
     Ok(())

@@ -31,8 +31,8 @@ fn block_of(bytes: &[u8], number: usize) -> &[u8] {
     bytes.chunks(512).nth(number).unwrap_or(&[])
 }
 
-/// The path of data block `i`. Level 0 of the tree begins with block 4 of the device, level 1 with block 2, level 2 with
-/// block 1.
+/// The path of data block `i`. Level 0 of the tree begins with block 4 of the device, level 1 with block 2, level 2
+/// with block 1.
 fn path_of(alloc: Global, tree: &Tree, i: usize) -> Result<Vec<u8>, AllocError> {
     let device = tree.on_device(alloc, 512)?;
     let path = [

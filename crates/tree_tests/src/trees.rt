@@ -21,7 +21,7 @@ pub fn small_tree(alloc: Global, data: &[u8], levels: usize) -> Result<Tree, All
 }
 
 #[test]
-fn a_plan_has_numbers(_rt: HostRuntime) -> Result<(), Fail> {
+fn a_plan_has_numbers() -> Result<(), Fail> {
     let plan = Plan::for_blocks(&small()?, 257, 1)?;
     let numbers = (plan.fan(), plan.levels(), plan.end());
     same("257 blocks", numbers, (16, 3, 21))

@@ -127,8 +127,8 @@ const FEWEST: [Batches; 4] = [
     (BEFORE, SHA256, (512, 512), &[1]),
 ];
 
-/// Whether a pass that writes a tree, one that makes the root hash alone, and one that compares the tree agree, each over
-/// its source.
+/// Whether a pass that writes a tree, one that makes the root hash alone, and one that compares the tree agree, each
+/// over its source.
 fn agree(alloc: Global, plan: &Plan, sources: &mut [Watcher; 3]) -> Result<bool, Fail> {
     let mut store = Store::new(alloc, plan)?;
     if !store.fits(plan) {
@@ -148,12 +148,17 @@ fn is_read(alloc: Global, case: &Batches) -> Result<bool, Fail> {
     let settings = settings(rule, algorithm, &[], sizes)?;
     let expected = read_in(settings.data_block() as usize, batches);
     let plan = Plan::for_blocks(&settings, expected.reads as u64, 0)?;
+    let mut blocks = 0_usize;
+    for &count in batches {
+        blocks = blocks.saturating_add(count);
+    }
+    same("the batches", expected.reads, blocks)?;
     let mut sources = [Watcher::new(expected.size); 3];
     Ok(agree(alloc, &plan, &mut sources)? && sources == [expected; 3])
 }
 
 /// An error for the first case whose data blocks aren't read in its batches, if there is one.
-fn are_read(alloc: Global, cases: &[Batches]) -> Result<(), Fail> {
+fn try_cases(alloc: Global, cases: &[Batches]) -> Result<(), Fail> {
     for case in cases {
         same(format_args!("{case:?}"), is_read(alloc, case)?, true)?;
     }
@@ -162,15 +167,15 @@ fn are_read(alloc: Global, cases: &[Batches]) -> Result<(), Fail> {
 
 #[test]
 fn data_blocks_are_read_together_in_windows(rt: HostRuntime) -> Result<(), Fail> {
-    are_read(rt.alloc(), &SMALLER)
+    try_cases(rt.alloc(), &SMALLER)
 }
 
 #[test]
 fn large_data_blocks_are_read_together_in_windows(rt: HostRuntime) -> Result<(), Fail> {
-    are_read(rt.alloc(), &LARGEST)
+    try_cases(rt.alloc(), &LARGEST)
 }
 
 #[test]
 fn few_data_blocks_are_read_together_in_windows(rt: HostRuntime) -> Result<(), Fail> {
-    are_read(rt.alloc(), &FEWEST)
+    try_cases(rt.alloc(), &FEWEST)
 }

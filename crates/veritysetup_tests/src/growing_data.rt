@@ -29,7 +29,7 @@ const LENGTHS: [Row; 3] = [
     (8191, 4, "Data ends before the end of block 15.\n"),
 ];
 
-/// Verifies an image whose data grows.
+/// Verifies an image whose data grows. The run has to end so, and the data has to be whole then.
 fn check_grown(alloc: Global, image: &Image, words: &str, row: Row) -> Result<(), Fail> {
     let (length, status, message) = row;
     let root = hex::encode(alloc, image.root.as_slice())?;

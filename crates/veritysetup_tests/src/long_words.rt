@@ -17,7 +17,7 @@ fn long_options(alloc: Global) -> Result<String, AllocError> {
     )
 }
 
-/// The image of 17 blocks is made, dumped and verified under these names.
+/// The image of 17 blocks is made, dumped and verified under these names, with long options.
 fn check_names(alloc: Global, data: &str, hash: &str) -> Result<(), Fail> {
     let image = image_17(alloc)?;
     let disk = disk_with(alloc, data, Kind::Plain, image.data.as_slice())?;

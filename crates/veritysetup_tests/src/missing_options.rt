@@ -34,7 +34,7 @@ const UUID: [u8; 16] = [
 
 /// The settings of a file of 8191 bytes, if no option is given.
 #[test]
-fn random_bytes_stand_for_what_is_missing(_rt: HostRuntime) -> Result<(), Fail> {
+fn random_bytes_stand_for_what_is_missing() -> Result<(), Fail> {
     let settings = settings_of(&DEFAULTS, 8191, Some(&RANDOM))?;
     let plan = settings.plan();
     let tree = plan.settings();

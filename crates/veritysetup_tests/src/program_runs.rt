@@ -8,7 +8,7 @@ use std::test::Fail;
 use veritysetup::{ShownProgress, run_program};
 
 /// What is opened first.
-pub const PLACEHOLDERS: &str = "/: read\n/: read\n/: read\n";
+const PLACEHOLDERS: &str = "/: read\n/: read\n/: read\n";
 
 /// A disk with the root folder, the null device, the current folder and a file `data`.
 pub fn disk_of(alloc: Global, data: &[u8]) -> io::Result<Disk> {
@@ -27,7 +27,8 @@ pub fn disk_with(alloc: Global, name: &str, kind: Kind, bytes: &[u8]) -> io::Res
     Ok(disk)
 }
 
-/// A disk as `disk_of` makes it, with 8192 bytes in `data` and in `hash.img`, on which the call of this number fails.
+/// A disk as `disk_of` makes it, with 8192 bytes in `data` and in `hash.img`, on which the call of this kind and number
+/// fails.
 pub fn failing_disk(alloc: Global, call: Call, number: u64) -> io::Result<Disk> {
     let disk = disk_of(alloc, &[5; 8192])?;
     disk.make("hash.img", [0; 8192].to_vec(alloc)?)?;
@@ -77,7 +78,7 @@ pub fn check_opened(disk: &Disk, at: &str, opened: &str) -> Result<(), Fail> {
 }
 
 /// Runs a command with these words, which has to print this text.
-pub fn check_printed<W: Display + Drop>(
+fn check_printed<W: Display + Drop>(
     alloc: Global,
     disk: &Disk,
     command: &str,
@@ -116,7 +117,8 @@ pub fn check_stored<W: Display + Drop>(
     check_printed(alloc, disk, "verify", format_args!("{verify} {root}"), "")
 }
 
-/// The image of a file is made, dumped and verified, with these options. Its report names the hash device.
+/// Makes, dumps and verifies the image of the file `data` with these options. The hash device is the file that the
+/// report names, and has to be that of the image.
 pub fn check_image(
     alloc: Global,
     disk: &Disk,

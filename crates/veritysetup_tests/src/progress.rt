@@ -50,9 +50,9 @@ const OF_LONG: [u64; 16] = [3, 6, 9, 12, 15, 18, 21, 24, 28, 31, 34, 37, 40, 43,
 /// Words, the status of their run, the hundredths in its lines and of how many MiB, and how its other output begins.
 type Row = (&'static str, u8, (&'static [u64], u64), &'static str);
 
-/// Runs one after another. The files are those of `disk_of_files`, and those that earlier runs have made. The root hashes
-/// are those of 65 and of 256 blocks of 4096 bytes that are all 5, as sha256sum gives them. The number of MiB is that
-/// of the covered data, or, if a superblock says how much is covered, the length of DATA.
+/// Runs one after another. The files are those of `disk_of_files`, and those that earlier runs have made. The root
+/// hashes are those of 65 and of 256 blocks of 4096 bytes that are all 5, as sha256sum gives them. The number of MiB
+/// is that of the covered data, or, if a superblock says how much is covered, the length of DATA.
 const RUNS: [Row; 9] = [
     (
         "veritysetup format --salt=- data hash",

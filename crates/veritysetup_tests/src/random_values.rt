@@ -98,7 +98,7 @@ fn values(
     Ok((salt, uuid))
 }
 
-/// The report of an image of 17 blocks with this text of its UUID and its salt.
+/// The report of an image of 17 blocks with these texts of its UUID and its salt.
 fn report<'a>(
     alloc: Global,
     uuid: &'a str,

@@ -87,8 +87,8 @@ fn is_refused_without_words(alloc: Global) -> bool {
     matches!(read_words(alloc, &[]), Err(LineFault::Refused(_)))
 }
 
-/// The program has to refuse each of the words.
-fn check_refused(alloc: Global, disk: &Disk) -> Result<(), Fail> {
+/// The program has to refuse each of these lines.
+fn check_all_refused(alloc: Global, disk: &Disk) -> Result<(), Fail> {
     for &(words, last_word, message) in &REFUSED {
         let output = run_with_last(alloc, disk, words, last_word);
         same(words, output.differs(1, b"", message.as_bytes()), None)?;
@@ -101,6 +101,6 @@ fn refused_words_open_no_file(rt: HostRuntime) -> Result<(), Fail> {
     let alloc = rt.alloc();
     same("no words", is_refused_without_words(alloc), true)?;
     let disk = disk_of(alloc, &[5; 8192])?;
-    check_refused(alloc, &disk)?;
+    check_all_refused(alloc, &disk)?;
     same("what is opened", disk.opened()?.as_str(), "")
 }

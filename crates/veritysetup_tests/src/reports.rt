@@ -102,7 +102,7 @@ fn wrong_format(
     wrong_device(alloc, disk, row, tree, has_superblock)
 }
 
-/// What verify prints that isn't as it should be. Without a superblock its words have the options of format.
+/// What of a run of verify isn't as it should be. Without a superblock its words have the options of format.
 fn wrong_verify(
     alloc: Global,
     disk: &Disk,
@@ -121,7 +121,7 @@ fn wrong_verify(
     Ok(run(alloc, disk, words.as_str()).differs(0, b"", b""))
 }
 
-/// What dump prints that isn't as it should be.
+/// What of a run of dump isn't as it should be.
 fn wrong_dump(alloc: Global, disk: &Disk, row: Row, has_superblock: bool) -> Result<Wrong, Fail> {
     let dump = run(alloc, disk, "veritysetup dump hash");
     if !has_superblock {

@@ -30,7 +30,7 @@ fn check_synced(alloc: Global, disk: &Disk, path: &str, folder: &str) -> Result<
     same(path, disk.held()?.as_str().contains(held.as_str()), true)
 }
 
-/// Makes a hash device in a folder.
+/// Makes a hash device at this path. Its folder has to be synced.
 fn check_folder(alloc: Global, path: &str, folder: &str) -> Result<(), Fail> {
     let disk = disk_of(alloc, &[5; 8192])?;
     disk.make_kind(folder, Kind::Folder, Vec::new(alloc))?;
