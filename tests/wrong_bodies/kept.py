@@ -8,12 +8,14 @@ import re
 import sys
 
 from crates import text_of
-from reach import Reach
+from reach import Reach, entries
 
 HERE = os.path.dirname(os.path.abspath(__file__))
 
 # What judges: the files of this folder that a verdict rests on.
 JUDGES = ("bodies", "checks", "crates", "functions", "groups", "reach", "shapes", "verdicts")
+
+USE = re.compile(r"^((?:unfoldable |pub )*use) ([^\n]*(?:\n +[^\n]*)*)\n", re.M)
 
 
 class Sums:
@@ -21,6 +23,7 @@ class Sums:
 
     def __init__(self, crates, toolchain):
         self.listed, self.reach = crates.listed, Reach(crates)
+        self.reach.files = {path: with_single_imports(text) for path, text in self.reach.files.items()}
         for name in ("of_statement", "of_code", "named_in_antt"):
             # Many bodies rest on the same texts, each of which is read once.
             setattr(self.reach, name, functools.cache(getattr(self.reach, name)))
@@ -81,3 +84,9 @@ class Kept:
         with open(f"{self.path}.new", "w", encoding="utf-8") as file:
             file.write("".join(f"{it}\n" for it in lines))
         os.replace(f"{self.path}.new", self.path)
+
+
+def with_single_imports(text):
+    """A file of definitions or proofs with each import by itself, in the order of their names."""
+    names = sorted({f"{how} {it}" for how, items in USE.findall(text) for it in entries(items)})
+    return "\n".join([*names, USE.sub("", text)])

@@ -13,29 +13,12 @@ small_repository() {
     sed -i 's/^MOST_CHANGES = .*/MOST_CHANGES = 8/' "$1/tests/wrong_bodies/wrong_bodies.py"
     cp HANDLES "$1"
     lines "$1/crates.txt" 'few:' 'small: few' 'small_tests: small'
-    cat >"$1/crates/few/src/lib.rt" <<'END'
-//! A number for the crate above.
-
-ghost use Rattle.std.specs.Prelude.{◌≡◌, ◌≤◌};
-
-/// Three.
-pub fn few() -> u8
-    ensures { result ≡ 3 }
-{
-    3
-}
-END
+    lines "$1/crates/few/src/lib.rt" '//! A number for the crate above.' '' \
+        'ghost use Rattle.std.specs.Prelude.{◌≡◌, ◌≤◌};' '' '/// Three.' 'pub fn few() -> u8' \
+        '    ensures { result ≡ 3 }' '{' '    3' '}'
     small_code >"$crate/src/lib.rt"
-    cat >"$crate/src/out/mod.rt" <<'END'
-//! What is given out.
-
-ghost use Rattle.std.specs.Prelude.{◌≡◌};
-
-/// The same number.
-pub fn given(number: u8) -> u8 ensures { result ≡ number } {
-    number
-}
-END
+    lines "$crate/src/out/mod.rt" '//! What is given out.' 'ghost use Rattle.std.specs.Prelude.{◌≡◌};' '/// The same number.' \
+        'pub fn given(number: u8) -> u8 ensures { result ≡ number } {' '    number' '}'
     lines "$1/crates/few/specs/Few.antt" 'use Rattle.std.specs.Prelude.{ℕ}' '' 'unfoldable pub three : ℕ' \
         'three = 3'
     lines "$1/crates/few/specs/Lib.antt" 'pub mod Few'

@@ -1,11 +1,7 @@
 -- Why a line is refused, from the kinds of error that clap's definition gives for its words.
-use Rattle.std.proofs.Common.{◌≡◌, ◌∙◌, ap, sym, subst, true, List, Result, Ok, Err, IfErr}
-use Rattle.std.specs.Prelude.{IsErr, IsErrAnd}
-use Rattle.clap.specs.Kinds.{FailsBy, Kinds}
-use Rattle.clap.specs.Words.{App, Text, fault_of, is_simple_and_free}
-use Rattle.clap.specs.declared.error.Error.{Error}
-use Rattle.command_line.specs.LineFaults.{HasCause}
-use Rattle.command_line.specs.declared.words.line_fault.LineFault.{LineFault}
+use Rattle.std.{proofs.Common.{◌≡◌, ◌∙◌, ap, sym, subst, true, List, Result, Ok, Err, IfErr}, specs.Prelude.{IsErr, IsErrAnd}}
+use Rattle.clap.specs.{Kinds.{FailsBy, Kinds}, Words.{App, Text, fault_of, is_simple_and_free}, declared.error.Error.Error}
+use Rattle.command_line.specs.{LineFaults.HasCause, declared.words.line_fault.LineFault.LineFault}
 
 -- what a parse says of its own command holds for the definition of it
 pub fails_by : {T : Type 0} (defined own : App) (words : List Text) (r : Result T Error)

@@ -1,10 +1,7 @@
 -- Tables from which a command or a program is made, entry by entry.
 use Rattle.std.proofs.Common.{◌≡◌, ◌∙◌, ◌||◌, ◌+◌, ◌<◌, ℕ, ap, ap₂, sym, false, true, fold, get_or, length, List, [], ◌∷◌, map, take}
-use Rattle.std.proofs.lemmas.List.Folds.{fold-map}
-use Rattle.std.proofs.lemmas.List.Sums.{fold_more}
-use Rattle.clap.specs.Words.{AddsArg, AddsSubcommand, App, Rule, rule_of, with_rule}
-use Rattle.clap.specs.declared.builder.arg.Arg.{Arg}
-use Rattle.clap.specs.declared.builder.command.Command.{Command}
+use Rattle.{std.proofs.lemmas.List.{Folds.fold-map, Sums.fold_more}, clap.specs.declared.builder.command.Command.Command}
+use Rattle.clap.specs.{Words.{AddsArg, AddsSubcommand, App, Rule, rule_of, with_rule}, declared.builder.arg.Arg.Arg}
 use Rattle.command_line.specs.Arguments.{Defines, with_command}
 
 -- one more entry of a table

@@ -1,7 +1,6 @@
 -- Words that are put together one by one.
 use Rattle.std.proofs.Common.{◌≡◌, ◌∙◌, ap, ap₂, refl, sym, ℕ, zero, suc, ◌+◌, add-one, List, [], ◌∷◌, ◌++◌, map, take, Some, None}
-use Rattle.std.specs.Prelude.{slice_get}
-use Rattle.std.proofs.lemmas.List.{map-append}
+use Rattle.std.{proofs.lemmas.List.map-append, specs.Prelude.slice_get}
 
 -- a list that has no element of this index is taken whole
 pub take-whole : {X : Type 0} (xs : List X) (i : ℕ) → slice_get xs i ≡ None → take i xs ≡ xs

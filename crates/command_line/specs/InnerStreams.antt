@@ -1,6 +1,5 @@
 -- The inner writer and reader of the values that show the progress of long work; this project's own.
-use Rattle.command_line.specs.declared.progress.shown_progress.ErasingWriter.{ErasingWriter}
-use Rattle.command_line.specs.declared.progress.progress_reader.ProgressReader.{ProgressReader}
+use Rattle.command_line.specs.declared.progress.{shown_progress.ErasingWriter.ErasingWriter, progress_reader.ProgressReader.ProgressReader}
 
 -- the writer before whose writes the progress line is erased
 abbrev pub inner_writer : {R W : Type 0} → ErasingWriter R W → W

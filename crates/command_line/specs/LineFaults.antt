@@ -1,11 +1,8 @@
 -- Why a command line is refused: clap refuses it, perhaps because clap itself has no memory; or clap accepts it, and
 -- there is no memory for the copies of its words.
 use Rattle.std.specs.Prelude.{◌≡◌, []}
-use Rattle.clap.specs.Kinds.{HasKind, Kinds}
-use Rattle.clap.specs.Words.{kind_of}
-use Rattle.clap.specs.declared.error.ErrorKind.TheVariants.{OutOfMemory}
-use Rattle.command_line.specs.declared.words.line_fault.LineFault.{LineFault}
-use Rattle.command_line.specs.declared.words.line_fault.LineFault.TheVariants.{Refused, Memory}
+use Rattle.clap.specs.{Kinds.{HasKind, Kinds}, Words.kind_of, declared.error.ErrorKind.TheVariants.OutOfMemory}
+use Rattle.command_line.specs.declared.words.line_fault.LineFault.{LineFault, TheVariants.{Refused, Memory}}
 
 -- there is no memory, for clap or for the copies
 abbrev pub LacksMemory : LineFault → Type 0

@@ -1,12 +1,8 @@
 -- The words of a command line as the system gives them: bytes, which may not be UTF-8. This project's own.
-use Rattle.std.specs.Prelude.{◌≡◌, ℕ, ◌==◌, ◌&&◌, List, [], ◌∷◌, ◌++◌, IsUtf8, Some, codes, if◌then◌else◌, map, nat_lt, slice_get}
-use Rattle.std.specs.Prelude.{String, string_bytes, take, ⊤}
-use Rattle.std.specs.List.{concat, flat_map}
-use Rattle.std.specs.declared.alloc.Global.{Global}
-use Rattle.std.specs.Fmt.{decimal}
-use Rattle.hex.specs.Hex.{encode_lower}
-use Rattle.command_line.specs.declared.words.system_words.WordsFault.{WordsFault}
-use Rattle.command_line.specs.declared.words.system_words.WordsFault.TheVariants.{NotUtf8, Memory}
+use Rattle.std.specs.Prelude.{◌≡◌, ℕ, ◌==◌, ◌&&◌, List, [], ◌∷◌, ◌++◌, IsUtf8, Some, codes, if◌then◌else◌, map, nat_lt, slice_get, String}
+use Rattle.std.specs.Prelude.{string_bytes, take, ⊤}
+use Rattle.{std.specs.{List.{concat, flat_map}, declared.alloc.Global.Global, Fmt.decimal}, hex.specs.Hex.encode_lower}
+use Rattle.command_line.specs.declared.words.system_words.WordsFault.{WordsFault, TheVariants.{NotUtf8, Memory}}
 
 -- a byte, escaped: a backslash twice, printable ASCII as it is, any other as two hexadecimal digits
 abbrev pub escaped_byte : ℕ → List ℕ

@@ -1,8 +1,7 @@
 -- What a writer holds after a text or a message was written, if the writer's contents are known.
 use Rattle.std.specs.Prelude.{ℕ, ◌<◌, List, length, take, Option, Result, Ok, Err}
 use Rattle.std.specs.Io.KnownBytes.{Appends, Keeps}
-use Rattle.command_line.specs.declared.writing.print_fault.PrintFault.{PrintFault}
-use Rattle.command_line.specs.declared.writing.print_fault.PrintFault.TheVariants.{Memory, Output}
+use Rattle.command_line.specs.declared.writing.print_fault.PrintFault.{PrintFault, TheVariants.{Memory, Output}}
 
 -- some of the text's first bytes are added, perhaps none and perhaps all
 abbrev pub AppendsPrefix : List ℕ → Option (List ℕ) → Option (List ℕ) → Type 0

@@ -1,20 +1,11 @@
 -- A tree that the calls of the library for C have built, with the superblock, is a formatted device.
 use Rattle.std.proofs.Common.{◌≡◌, ◌≢◌, ◌∙◌, ℕ, ◌≤◌, List, Option, length, take, inl, inr, refl, subst, sym}
-use Rattle.verity_c_api.specs.ReadBack.{HasFields}
-use Rattle.verity_c_api.specs.declared.parameters.VerityParams.{VerityParams}
-use Rattle.verity_io.specs.Counting.{Change}
-use Rattle.verity_plan.specs.Plans.{PlanFields}
-use Rattle.verity_blocks.specs.Levels.{data_blocks}
-use Rattle.verity_blocks.specs.TreeWriting.{tree_on_device}
-use Rattle.veritysetup.proofs.AcceptedLemmas.{accepted-back}
-use Rattle.veritysetup.proofs.FormattedLemmas.{written-formatted}
-use Rattle.veritysetup.specs.Faults.{status_refused, status_verification_failed}
-use Rattle.veritysetup.specs.Options.Settings.{SettingsFields}
-use Rattle.veritysetup.specs.Runs.Format.{formatted_device}
-use Rattle.veritysetup.specs.Runs.Formatted.{IsFormattedDevice, root_above}
-use Rattle.veritysetup.specs.Runs.GivenBack.{IsGivenBack}
-use Rattle.veritysetup.specs.Runs.Verify.{VerifyRun}
-use Rattle.veritysetup.specs.declared.runs.verify_input.VerifyInput.{VerifyInput}
+use Rattle.{verity_c_api.specs.{ReadBack.HasFields, declared.parameters.VerityParams.VerityParams}, verity_io.specs.Counting.Change}
+use Rattle.{verity_plan.specs.Plans.PlanFields, verity_blocks.specs.{Levels.data_blocks, TreeWriting.tree_on_device}}
+use Rattle.veritysetup.proofs.{AcceptedLemmas.accepted-back, FormattedLemmas.written-formatted}
+use Rattle.veritysetup.specs.{Faults.{status_refused, status_verification_failed}, Options.Settings.SettingsFields}
+use Rattle.veritysetup.specs.Runs.{Format.formatted_device, Formatted.{IsFormattedDevice, root_above}, GivenBack.IsGivenBack}
+use Rattle.veritysetup.specs.{Runs.Verify.VerifyRun, declared.runs.verify_input.VerifyInput.VerifyInput}
 use Rattle.device_laws.proofs.SettingsOfParameters.{settings-valid, superblock-written}
 use Rattle.device_laws.specs.BuiltDevices.{AreSettingsOf, IsTreeByCalls, with_superblock_by}
 

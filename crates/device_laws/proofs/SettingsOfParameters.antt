@@ -1,22 +1,13 @@
 -- Settings that say what parameters of the library for C say are those of a plan that can be carried out, their parts
 -- agree, and their superblock is the one that the library writes.
-use Rattle.std.proofs.Common.{◌≡◌, ℕ, ◌*◌, ◌%◌, ◌==◌, ◌∙◌, Bool, true, false, [], Some, None, Ok, if◌then◌else◌, arith}
-use Rattle.std.proofs.Common.{ap, refl, sym}
-use Rattle.std.proofs.lemmas.Bool.Decides.{nat_tests}
-use Rattle.verity_c_api.proofs.ParameterLemmas.{made-rule, plan-made, planned-ok}
-use Rattle.verity_c_api.proofs.SuperblockLemmas.{superblock_of-own}
-use Rattle.verity_c_api.specs.Answers.{superblock_in, value_or}
-use Rattle.verity_c_api.specs.Parameters.{plan_if, plan_of}
-use Rattle.verity_c_api.specs.ReadBack.{HasFields}
-use Rattle.verity_c_api.specs.declared.parameters.VerityParams.{VerityParams}
-use Rattle.verity_format.specs.Superblocks.{superblock_bytes}
-use Rattle.verity_plan.specs.Plans.{PlanFields, base_of, offset_unit, plan_at}
-use Rattle.verity_plan.specs.Settings.{rule_of}
-use Rattle.veritysetup.proofs.ChosenPlanLemmas.{IsPlanFrom, plan_is}
-use Rattle.veritysetup.proofs.SettingsLemmas.{AreValid, superblock-valid}
-use Rattle.veritysetup.specs.Options.Settings.{SettingsFields}
-use Rattle.veritysetup.specs.Runs.HashDevice.{superblock_for}
-use Rattle.device_laws.specs.BuiltDevices.{AreSettingsOf}
+use Rattle.std.proofs.Common.{◌≡◌, ℕ, ◌*◌, ◌%◌, ◌==◌, ◌∙◌, Bool, true, false, [], Some, None, Ok, if◌then◌else◌, arith, ap, refl, sym}
+use Rattle.{std.proofs.lemmas.Bool.Decides.nat_tests, verity_c_api.specs.declared.parameters.VerityParams.VerityParams}
+use Rattle.verity_c_api.proofs.{ParameterLemmas.{made-rule, plan-made, planned-ok}, SuperblockLemmas.superblock_of-own}
+use Rattle.verity_c_api.specs.{Answers.{superblock_in, value_or}, Parameters.{plan_if, plan_of}, ReadBack.HasFields}
+use Rattle.{verity_format.specs.Superblocks.superblock_bytes, device_laws.specs.BuiltDevices.AreSettingsOf}
+use Rattle.verity_plan.specs.{Plans.{PlanFields, base_of, offset_unit, plan_at}, Settings.rule_of}
+use Rattle.veritysetup.proofs.{ChosenPlanLemmas.{IsPlanFrom, plan_is}, SettingsLemmas.{AreValid, superblock-valid}}
+use Rattle.veritysetup.specs.{Options.Settings.SettingsFields, Runs.HashDevice.superblock_for}
 
 -- the hash offset is a multiple of its unit, and the plan begins where it says
 record IsPlaced (params : VerityParams) (p : PlanFields) : Type 0 where

@@ -1,15 +1,8 @@
 -- What the answer of a pass over the data says of a file.
-use Rattle.std.proofs.Common.{◌≡◌, ℕ, ◌+◌, ◌*◌, ◌/◌, ◌<◌, ◌≤◌, List, [], length, sym}
-use Rattle.std.proofs.Common.{arith}
-use Rattle.std.specs.Prelude.{min}
-use Rattle.std.proofs.Math.Nat.{div-eq_of_lt-le}
-use Rattle.verity_io.specs.Reading.{HasRead}
-use Rattle.verity_blocks.specs.Levels.{data_blocks}
-use Rattle.verity_pass.specs.Reading.{EndsWithin, FailsWithin}
-use Rattle.verity_blocks.specs.TreeWriting.{tree_on_device}
-use Rattle.verity_plan.specs.Plans.{PlanFields, plan_of_file}
-use Rattle.verity_plan.specs.Settings.{TreeSettingsFields}
-use Rattle.fsverity.specs.Runs.FileDigest.{with_tree}
+use Rattle.std.proofs.{Common.{◌≡◌, ℕ, ◌+◌, ◌*◌, ◌/◌, ◌<◌, ◌≤◌, List, [], length, sym, arith}, Math.Nat.div-eq_of_lt-le}
+use Rattle.{std.specs.Prelude.min, verity_io.specs.Reading.HasRead, verity_blocks.specs.{Levels.data_blocks, TreeWriting.tree_on_device}}
+use Rattle.{verity_pass.specs.Reading.{EndsWithin, FailsWithin}, fsverity.specs.Runs.FileDigest.with_tree}
+use Rattle.verity_plan.specs.{Plans.{PlanFields, plan_of_file}, Settings.TreeSettingsFields}
 
 -- a source that ended within block i holds so many blocks, and not all that is wanted
 pub ends_short : (p : PlanFields) (i : ℕ) (before after : List ℕ) → EndsWithin p i before after →

@@ -1,28 +1,17 @@
 -- A run over files, file after file.
-use Rattle.std.proofs.Common.{◌≡◌, ℕ, zero, suc, ◌+◌, ◌<◌, ◌≤◌, List, [], ◌∷◌, ◌++◌, length, take, Bool, true}
-use Rattle.std.proofs.Common.{false, inl, inr, Option, Some, None, Result, Ok, Err, refl, ap, sym, subst, not}
-use Rattle.std.proofs.Common.{add-one, arith}
-use Rattle.std.specs.Prelude.{◌↔◌, ◌⊎◌, IfErr, IsOk, OnOk, slice_get}
-use Rattle.std.proofs.lemmas.Option.{get_or_from_slice_get}
-use Rattle.std.specs.List.{prefix_len}
-use Rattle.std.specs.Io.KnownBytes.{Appends}
-use Rattle.command_line.proofs.Prefixes.{Keeps-refl, appends_kept}
-use Rattle.verity_io.proofs.KnownLemmas.{appends_twice}
-use Rattle.verity_plan.specs.Settings.{TreeSettingsFields}
-use Rattle.fsverity.specs.Faults.{IsTold, result_status, status_failed, status_of}
-use Rattle.fsverity.specs.Texts.Lines.{digest_line}
-use Rattle.fsverity.specs.Openers.Opening.{OpenerChange}
-use Rattle.fsverity.specs.Runs.Digest.{EndsAt, HasReason, IsLargeAt, IsPartOfDigestLine, first_without_digest}
-use Rattle.fsverity.specs.Runs.Digest.{has_digest}
+use Rattle.std.proofs.Common.{◌≡◌, ℕ, zero, suc, ◌+◌, ◌<◌, ◌≤◌, List, [], ◌∷◌, ◌++◌, length, take, Bool, true, false, inl, inr, Option}
+use Rattle.std.proofs.{Common.{Some, None, Result, Ok, Err, refl, ap, sym, subst, not, add-one, arith}, lemmas.Option.get_or_from_slice_get}
+use Rattle.std.specs.{Prelude.{◌↔◌, ◌⊎◌, IfErr, IsOk, OnOk, slice_get}, List.prefix_len, Io.KnownBytes.Appends}
+use Rattle.command_line.{proofs.Prefixes.{Keeps-refl, appends_kept}, specs.declared.writing.print_fault.PrintFault.TheVariants.Output}
+use Rattle.{verity_io.proofs.KnownLemmas.appends_twice, verity_plan.specs.Settings.TreeSettingsFields}
+use Rattle.fsverity.specs.{Faults.{IsTold, result_status, status_failed, status_of}, Texts.Lines.digest_line, Openers.Opening.OpenerChange}
+use Rattle.fsverity.specs.Runs.Digest.{EndsAt, HasReason, IsLargeAt, IsPartOfDigestLine, first_without_digest, has_digest}
 use Rattle.fsverity.specs.Runs.Digested.{AreDigestLines, DigestInput, IsDigestAt, digest_line_at}
-use Rattle.fsverity.specs.Runs.DigestSteps.{ComesBeforeLine, HasDigestAt, StopsRun, StopsStep, WritesStep}
-use Rattle.command_line.specs.declared.writing.print_fault.PrintFault.TheVariants.{Output}
-use Rattle.command_line.specs.declared.writing.print_fault.PrintFault.TheVariants as print
-use Rattle.fsverity.specs.declared.fault.Fault.{Fault}
+use Rattle.fsverity.specs.{Runs.DigestSteps.{ComesBeforeLine, HasDigestAt, StopsRun, StopsStep, WritesStep}, declared.fault.Fault.Fault}
 use Rattle.fsverity.specs.declared.fault.Fault.TheVariants.{Unopened, Digest, Descriptor, DigestLine}
+use Rattle.fsverity.specs.declared.runs.digest_fault.DigestFault.TheVariants.{TooLarge, SourceShort, SourceFailed, DeviceFailed, Memory}
+use Rattle.command_line.specs.declared.writing.print_fault.PrintFault.TheVariants as print
 use Rattle.fsverity.specs.declared.fault.Fault.TheVariants as ending
-use Rattle.fsverity.specs.declared.runs.digest_fault.DigestFault.TheVariants.{TooLarge, SourceShort, SourceFailed}
-use Rattle.fsverity.specs.declared.runs.digest_fault.DigestFault.TheVariants.{DeviceFailed, Memory}
 
 -- one more element passes
 pub passes_more : {A : Type 0} (p : A → Bool) (xs : List A) (i : ℕ) (x : A) → slice_get xs i ≡ Some x → p x ≡ true →

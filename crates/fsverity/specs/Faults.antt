@@ -1,18 +1,14 @@
 -- How a run ends: done, or at its first fault. The status and the message of each fault, and whose call it was
 -- (fsverity(1); statuses and messages are this project's own).
 use Rattle.std.specs.Prelude.{◌≡◌, ◌≤◌, ℕ, List, Option, Some, None, Result, Ok, Err, IfSome}
-use Rattle.std.specs.Io.KnownBytes.{Keeps}
-use Rattle.command_line.specs.Writing.{AppendsPrefix}
-use Rattle.command_line.specs.SystemWords.{not_utf8_message}
+use Rattle.{std.specs.Io.KnownBytes.Keeps, verity_io.specs.Counting.{Side, TheOpener}}
+use Rattle.command_line.specs.{Writing.AppendsPrefix, SystemWords.not_utf8_message, declared.writing.print_fault.PrintFault.PrintFault}
+use Rattle.fsverity.specs.Texts.Messages.{digest_message, memory_message, option_message, unopened_message, unwritten_descriptor_message}
+use Rattle.fsverity.specs.{Texts.Messages.unwritten_output_message, declared.fault.Fault.Fault}
 use Rattle.command_line.specs.declared.words.system_words.WordsFault.TheVariants as words
 use Rattle.command_line.specs.declared.words.line_fault.LineFault.TheVariants as line
-use Rattle.command_line.specs.declared.writing.print_fault.PrintFault.{PrintFault}
 use Rattle.command_line.specs.declared.writing.print_fault.PrintFault.TheVariants as print
-use Rattle.verity_io.specs.Counting.{Side, TheOpener}
 use Rattle.fsverity.specs.Runs.FileDigest as digesting
-use Rattle.fsverity.specs.Texts.Messages.{digest_message, memory_message, option_message, unopened_message}
-use Rattle.fsverity.specs.Texts.Messages.{unwritten_descriptor_message, unwritten_output_message}
-use Rattle.fsverity.specs.declared.fault.Fault.{Fault}
 use Rattle.fsverity.specs.declared.fault.Fault.TheVariants as fault
 
 -- all is done

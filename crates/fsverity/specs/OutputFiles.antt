@@ -1,17 +1,10 @@
 -- The output files of a run, each of which may be missing, and what a value says of them that a step answers.
 -- For the private functions; not needed to read a public contract.
 use Rattle.std.specs.Prelude.{◌≡◌, ◌⊎◌, ℕ, List, [], Option, Some, None, IsSome, is_some, option_map}
-use Rattle.std.specs.Borrow.{Bor}
-use Rattle.command_line.specs.declared.files.identity.FileIdentity.{FileIdentity}
-use Rattle.command_line.specs.declared.files.opening.MeasuredFile.{MeasuredFile}
-use Rattle.command_line.specs.declared.files.opening.OpenedFile.{OpenedFile}
-use Rattle.verity_plan.specs.Settings.{TreeSettingsFields}
-use Rattle.fsverity.specs.declared.program.output_files.OutputFiles.{OutputFiles}
-use Rattle.fsverity.specs.declared.program.output_files.OutputNames.{OutputNames}
-use Rattle.fsverity.specs.declared.program.outputs.OutputRequest.{OutputRequest}
-use Rattle.fsverity.specs.declared.runs.outputs.OutputTask.{OutputTask}
-use Rattle.fsverity.specs.declared.runs.outputs.Written.{Written}
-use Rattle.fsverity.specs.declared.texts.digest_lines.Form.{Form}
+use Rattle.{std.specs.Borrow.Bor, command_line.specs.declared.files.{identity.FileIdentity.FileIdentity, opening.MeasuredFile.MeasuredFile}}
+use Rattle.{command_line.specs.declared.files.opening.OpenedFile.OpenedFile, verity_plan.specs.Settings.TreeSettingsFields}
+use Rattle.fsverity.specs.declared.{program.output_files.{OutputFiles.OutputFiles, OutputNames.OutputNames}, texts.digest_lines.Form.Form}
+use Rattle.fsverity.specs.declared.{program.outputs.OutputRequest.OutputRequest, runs.outputs.{OutputTask.OutputTask, Written.Written}}
 
 -- the names that the output files were asked for by
 abbrev pub names_of : {D W : Type 0} → OutputFiles D W → OutputNames

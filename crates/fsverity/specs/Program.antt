@@ -1,20 +1,13 @@
 -- The program over any runtime: the settings that a command line chooses, what it prints, and what a value says of it
 -- that a step answers.
 -- For the private functions; not needed to read a public contract.
-use Rattle.std.specs.Prelude.{◌≡◌, ◌≢◌, ◌||◌, Bool, true, ℕ, List, [], ◌∷◌, Option, Result, is_some, length, map}
-use Rattle.std.specs.Prelude.{option_copied, option_map, string_bytes}
-use Rattle.std.specs.Io.KnownBytes.{Appends}
-use Rattle.verity_plan.specs.Settings.{TreeSettingsFields}
-use Rattle.fsverity.specs.Options.Settings.{digest_settings}
-use Rattle.fsverity.specs.Runs.Digested.{AreDigestLines}
-use Rattle.fsverity.specs.Texts.Lines.{form_of}
-use Rattle.fsverity.specs.declared.program.done.Done.{Done}
+use Rattle.std.specs.Prelude.{◌≡◌, ◌≢◌, ◌||◌, Bool, true, ℕ, List, [], ◌∷◌, Option, Result, is_some, length, map, option_copied, option_map}
+use Rattle.std.specs.Prelude.{string_bytes}
+use Rattle.{std.specs.Io.KnownBytes.Appends, verity_plan.specs.Settings.TreeSettingsFields}
+use Rattle.fsverity.specs.{Options.Settings.digest_settings, Runs.Digested.AreDigestLines, Texts.Lines.form_of}
+use Rattle.fsverity.specs.declared.{program.done.Done.Done, runs.{digest.Printed.Printed, outputs.Written.Written}}
+use Rattle.fsverity.specs.declared.{options.option_fault.FsOptionFault.FsOptionFault, texts.digest_lines.Form.Form, words.line.Line.Line}
 use Rattle.fsverity.specs.declared.program.done.Done.TheVariants as done
-use Rattle.fsverity.specs.declared.runs.digest.Printed.{Printed}
-use Rattle.fsverity.specs.declared.runs.outputs.Written.{Written}
-use Rattle.fsverity.specs.declared.options.option_fault.FsOptionFault.{FsOptionFault}
-use Rattle.fsverity.specs.declared.texts.digest_lines.Form.{Form}
-use Rattle.fsverity.specs.declared.words.line.Line.{Line}
 
 -- whether the line names an output file
 abbrev pub names_output : Line → Bool

@@ -1,16 +1,9 @@
 -- What a read at a hash block's place gives.
-use Rattle.std.proofs.Common.{◌≡◌, ℕ, ◌+◌, ◌*◌, ◌-◌, ◌/◌, ◌^◌, ◌<◌, ◌≤◌, List, length, take, drop, arith, ap, sym, ◌∙◌}
-use Rattle.std.proofs.Common.{refl, inl, inr}
-use Rattle.std.proofs.lemmas.Bool.{cases_lt}
-use Rattle.std.proofs.Math.Nat.{mul-le-mul_right}
-use Rattle.std.specs.Fork.{slice_chunk}
+use Rattle.std.proofs.Common.{◌≡◌, ℕ, ◌+◌, ◌*◌, ◌-◌, ◌/◌, ◌^◌, ◌<◌, ◌≤◌, List, length, take, drop, arith, ap, sym, ◌∙◌, refl, inl, inr}
+use Rattle.{std.{proofs.{lemmas.Bool.cases_lt, Math.Nat.mul-le-mul_right}, specs.Fork.slice_chunk}, verity_hash.specs.Hashing.with_zeros}
+use Rattle.verity_plan.{specs.{Plans.{PlanFields, start_byte_of}, Settings.fan}, proofs.IndexLemmas.quotient-next}
+use Rattle.{verity_blocks.proofs.OpenBlocks.DigestsInTurn.{chunk-other, chunk-same}, read_one_block.specs.Reading.stored_above}
 use borrow.Rule.Slice.PartMut.{put_mid}
-use Rattle.verity_hash.specs.Hashing.{with_zeros}
-use Rattle.verity_plan.specs.Plans.{PlanFields, start_byte_of}
-use Rattle.verity_plan.specs.Settings.{fan}
-use Rattle.verity_plan.proofs.IndexLemmas.{quotient-next}
-use Rattle.verity_blocks.proofs.OpenBlocks.DigestsInTurn.{chunk-other, chunk-same}
-use Rattle.read_one_block.specs.Reading.{stored_above}
 
 -- the bytes that were read are those stored above the data block
 pub read-stored : (p : PlanFields) (i l at n j : ℕ) (device before : List ℕ) → n ≡ p.settings.hash_block

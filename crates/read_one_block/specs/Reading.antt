@@ -1,17 +1,11 @@
 -- What reading one block of an image gives.
-use Rattle.std.specs.Prelude.{◌≡◌, ◌⊎◌, ◌<◌, ⊤, ℕ, ◌+◌, ◌*◌, ◌/◌, ◌^◌, List, [], length}
-use Rattle.std.specs.Prelude.{slice_index_or, Option, Some, None, Result, Ok, Err}
-use Rattle.std.specs.Fork.{slice_chunk}
-use Rattle.verity_io.specs.Counting.{Side, TheSource, TheDevice}
-use Rattle.verity_plan.specs.Plans.{PlanFields}
-use Rattle.verity_plan.specs.PlanCounts.{level_count_of}
-use Rattle.verity_plan.specs.Settings.{fan}
-use Rattle.verity_hash.specs.Hashing.{with_zeros}
-use Rattle.verity_blocks.specs.Levels.{data_blocks}
+use Rattle.std.specs.Prelude.{◌≡◌, ◌⊎◌, ◌<◌, ⊤, ℕ, ◌+◌, ◌*◌, ◌/◌, ◌^◌, List, [], length, slice_index_or, Option, Some, None, Result, Ok}
+use Rattle.std.specs.Prelude.{Err}
+use Rattle.{std.specs.Fork.slice_chunk, verity_io.specs.Counting.{Side, TheSource, TheDevice}, verity_hash.specs.Hashing.with_zeros}
+use Rattle.verity_plan.specs.{Plans.PlanFields, PlanCounts.level_count_of, Settings.fan}
+use Rattle.verity_blocks.specs.{Levels.data_blocks, TreeOnDevice.stored_block}
 use Rattle.verity_pass.specs.Paths.{ChecksBlock, HasCollision, IsAccepted}
-use Rattle.verity_blocks.specs.TreeOnDevice.{stored_block}
-use Rattle.read_one_block.specs.declared.image.ReadFault.{ReadFault}
-use Rattle.read_one_block.specs.declared.image.ReadFault.TheVariants.{DataFailed, TreeFailed, Refused}
+use Rattle.read_one_block.specs.declared.image.ReadFault.{ReadFault, TheVariants.{DataFailed, TreeFailed, Refused}}
 
 -- what a device holds at the place of the hash block of level l above data block i, zeros where it ends
 abbrev pub stored_above : PlanFields → ℕ → List ℕ → ℕ → List ℕ

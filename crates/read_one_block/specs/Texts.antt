@@ -1,9 +1,7 @@
 -- What is said of a block that isn't handed out.
 use Rattle.std.specs.Prelude.{ℕ, List, ◌++◌, codes}
-use Rattle.std.specs.Fmt.{decimal}
-use Rattle.verity_pass.specs.declared.path.PathFault.TheVariants.{Index, Length, DiffersAt}
-use Rattle.read_one_block.specs.declared.image.ReadFault.{ReadFault}
-use Rattle.read_one_block.specs.declared.image.ReadFault.TheVariants.{DataFailed, TreeFailed, Refused}
+use Rattle.{std.specs.Fmt.decimal, verity_pass.specs.declared.path.PathFault.TheVariants.{Index, Length, DiffersAt}}
+use Rattle.read_one_block.specs.declared.image.ReadFault.{ReadFault, TheVariants.{DataFailed, TreeFailed, Refused}}
 
 -- why it isn't
 abbrev pub fault_text : ReadFault → List ℕ

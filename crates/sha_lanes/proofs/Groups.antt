@@ -1,8 +1,7 @@
 -- Groups of consecutive blocks of a message. Nothing here depends on the size of words.
 use Rattle.std.proofs.Common.{◌≡◌, ℕ, ◌+◌, ◌-◌, ◌*◌, ◌<◌, ◌≤◌, List, ◌++◌, length, slice_index, take, drop, refl, ap, sym, ◌∙◌, arith}
 use Rattle.std.proofs.lemmas.List.{get_or-drop, get_or-take, get_or_append_left}
-use Rattle.sha_lanes.specs.Lanes.{HoldsFrom}
-use Rattle.sha_lanes.proofs.Pieces.{same_block, length-part, length-pieces, byte_of_piece}
+use Rattle.sha_lanes.{specs.Lanes.HoldsFrom, proofs.Pieces.{same_block, length-part, length-pieces, byte_of_piece}}
 
 -- ---- the blocks of a group
 

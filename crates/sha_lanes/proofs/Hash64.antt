@@ -1,15 +1,10 @@
 -- The schedule, the rounds and the hash value of one lane, by the definitions of `sha2`.
-use Rattle.std.proofs.Common.{◌≡◌, ℕ, suc, ◌+◌, ◌-◌, ◌*◌, ◌/◌, ◌%◌, ◌^◌, ◌<◌, ◌≤◌, List, [], ◌∷◌, ◌++◌, length, slice_index, get_or, take, drop, set, refl, ap, sym, ◌∙◌, arith}
-use Rattle.std.specs.Prelude.{bit_or}
-use Rattle.std.specs.Int.{w64, rotate_right, from_be_bytes, to_be_bytes}
-use Rattle.std.proofs.Math.Nat.{mod-eq_of_lt}
-use Rattle.std.proofs.Math.Seq.{take-length}
-use Rattle.std.proofs.Math.ListN.{length-map, length-set}
-use Rattle.std.proofs.lemmas.List.{get_or-take, get_or-drop, take_more_set, map-set}
+use Rattle.std.proofs.Common.{◌≡◌, ℕ, suc, ◌+◌, ◌-◌, ◌*◌, ◌/◌, ◌%◌, ◌^◌, ◌<◌, ◌≤◌, List, [], ◌∷◌, ◌++◌, length, slice_index, get_or, take}
+use Rattle.std.proofs.{Common.{drop, set, refl, ap, sym, ◌∙◌, arith}, Math.{Nat.mod-eq_of_lt, Seq.take-length}}
+use Rattle.std.proofs.{Math.ListN.{length-map, length-set}, lemmas.List.{get_or-take, get_or-drop, take_more_set, map-set}}
+use Rattle.std.specs.{Prelude.bit_or, Int.{w64, rotate_right, from_be_bytes, to_be_bytes}}
+use Rattle.sha_lanes.{specs.{Lanes.lane, Words64.AddsConstants}, proofs.LaneWise.{word_of_lane, word_kept, cons_eq}}
 use Rattle.sha2.specs.Sha512 as S512
-use Rattle.sha_lanes.specs.Lanes.{lane}
-use Rattle.sha_lanes.specs.Words64.{AddsConstants}
-use Rattle.sha_lanes.proofs.LaneWise.{word_of_lane, word_kept, cons_eq}
 
 -- a rotation by less than a word
 pub rotate_right_below : (x n : ℕ) → 0 < n → n < 64

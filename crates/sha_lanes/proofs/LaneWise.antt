@@ -1,11 +1,8 @@
 -- Lane by lane: what an operator on vectors of n lanes does to lane j, and the words of a lane.
-use Rattle.std.proofs.Common.{◌≡◌, ℕ, zero, suc, ◌+◌, ◌-◌, ◌<◌, ◌≤◌, List, [], ◌∷◌, ◌++◌, length, slice_index, get_or, take, set, map, refl, ap, sym, ◌∙◌, arith}
-use Rattle.std.specs.Simd.Lanes.{zip2}
-use Rattle.std.specs.Prelude.{replicate}
-use Rattle.std.proofs.lemmas.Simd.{get_or-zip2, length-zip2, get_or-replicate}
-use Rattle.std.proofs.lemmas.List.{get_or-map, get_or-set_same, get_or-set_other, length-replicate, map-set, take_all, take_more, take_more_set}
-use Rattle.std.proofs.Math.ListN.{length-map, length-set}
-use Rattle.std.proofs.Math.ListN.{get_or-map as get_or-map'}
+use Rattle.std.proofs.Common.{◌≡◌, ℕ, zero, suc, ◌+◌, ◌-◌, ◌<◌, ◌≤◌, List, [], ◌∷◌, ◌++◌, length, slice_index, get_or, take, set, map, refl}
+use Rattle.std.{proofs.{Common.{ap, sym, ◌∙◌, arith}, lemmas.Simd.{get_or-zip2, length-zip2, get_or-replicate}}, specs.Prelude.replicate}
+use Rattle.std.proofs.lemmas.List.{get_or-map, get_or-set_same, get_or-set_other, length-replicate, map-set, take_all, take_more}
+use Rattle.std.{proofs.{lemmas.List.take_more_set, Math.ListN.{length-map, length-set, get_or-map as get_or-map'}}, specs.Simd.Lanes.zip2}
 use Rattle.sha_lanes.specs.Lanes.{HasLanes, lane}
 
 -- a vector, by its own lanes

@@ -1,22 +1,14 @@
 -- One message alone: groups of blocks, and their schedules.
-use Rattle.std.proofs.Common.{◌≡◌, ℕ, ◌+◌, ◌-◌, ◌*◌, ◌/◌, ◌≤◌, ◌<◌, List, ◌++◌, length, slice_index, take, drop, map, refl, ap, sym, ◌∙◌, arith}
-use Rattle.std.specs.Prelude.{replicate}
-use Rattle.std.proofs.lemmas.List.{take-replicate, drop-replicate, get_or-map}
-use Rattle.std.proofs.lemmas.Simd.{get_or-replicate}
+use Rattle.std.proofs.Common.{◌≡◌, ℕ, ◌+◌, ◌-◌, ◌*◌, ◌/◌, ◌≤◌, ◌<◌, List, ◌++◌, length, slice_index, take, drop, map, refl, ap, sym, ◌∙◌}
+use Rattle.std.proofs.{Common.arith, lemmas.{List.{take-replicate, drop-replicate, get_or-map}, Simd.get_or-replicate}}
+use Rattle.{std.specs.Prelude.replicate, sha_lanes.specs.{Lanes.HoldsFrom, Sha1.first_round, declared.sha_1.functions.Kind.Kind}}
+use Rattle.sha_lanes.specs.{declared.sha_1.functions.Kind.TheVariants.{First, Second, Third, Fourth}, Words32.block_count as block_count32}
+use Rattle.sha_lanes.{specs.Words64.block_count as block_count64, proofs.{HashSha1.kind_constant, Pieces.length-pieces}}
+use Rattle.sha_lanes.proofs.{Groups.block_of_group, Padding32.{length-padded_message as length-padded_message32, blocks_of as blocks_of32}}
+use Rattle.sha_lanes.proofs.Padding64.{length-padded_message as length-padded_message64, blocks_of as blocks_of64}
 use Rattle.sha1.specs.Sha1 as S1
 use Rattle.sha2.specs.Sha256 as S256
 use Rattle.sha2.specs.Sha512 as S512
-use Rattle.sha_lanes.specs.Lanes.{HoldsFrom}
-use Rattle.sha_lanes.specs.Sha1.{first_round}
-use Rattle.sha_lanes.specs.declared.sha_1.functions.Kind.{Kind}
-use Rattle.sha_lanes.specs.declared.sha_1.functions.Kind.TheVariants.{First, Second, Third, Fourth}
-use Rattle.sha_lanes.specs.Words32.{block_count as block_count32}
-use Rattle.sha_lanes.specs.Words64.{block_count as block_count64}
-use Rattle.sha_lanes.proofs.HashSha1.{kind_constant}
-use Rattle.sha_lanes.proofs.Pieces.{length-pieces}
-use Rattle.sha_lanes.proofs.Groups.{block_of_group}
-use Rattle.sha_lanes.proofs.Padding32.{length-padded_message as length-padded_message32, blocks_of as blocks_of32}
-use Rattle.sha_lanes.proofs.Padding64.{length-padded_message as length-padded_message64, blocks_of as blocks_of64}
 
 -- a block of a group of zeros
 zero_block : (size : ℕ) (blocks : List ℕ) → blocks ≡ replicate 512 0 → (j : ℕ) → size ≤ 512 - j * size

@@ -2,9 +2,7 @@
 -- SHA-1 in eight lanes, by the definitions of `sha1`.
 use Rattle.std.specs.Prelude.{◌≡◌, ℕ, ◌<◌, ◌+◌, List, slice_index}
 use Rattle.sha1.specs.Sha1.{rounds, round_constant, add32}
-use Rattle.sha_lanes.specs.Lanes.{lane}
-use Rattle.sha_lanes.specs.declared.sha_1.functions.Kind.{Kind}
-use Rattle.sha_lanes.specs.declared.sha_1.functions.Kind.TheVariants.{First, Second, Third, Fourth}
+use Rattle.sha_lanes.specs.{Lanes.lane, declared.sha_1.functions.Kind.{Kind, TheVariants.{First, Second, Third, Fourth}}}
 
 -- the first of the twenty rounds of a kind
 abbrev pub first_round : Kind → ℕ

@@ -1,8 +1,7 @@
 -- For the private functions; not needed to read a public contract.
 -- SHA-224 and SHA-256 in eight lanes, by the definitions of `sha2`.
 use Rattle.std.specs.Prelude.{◌≡◌, ℕ, ◌<◌, ◌+◌, ◌/◌, List, take, drop, slice_index}
-use Rattle.sha2.specs.Sha256.{rounds, round_constants, first_words, padded_message, add32}
-use Rattle.sha_lanes.specs.Lanes.{lane}
+use Rattle.{sha2.specs.Sha256.{rounds, round_constants, first_words, padded_message, add32}, sha_lanes.specs.Lanes.lane}
 
 -- in each lane, the working variables v come from those of u by n rounds, from round t on, with the words w
 abbrev pub RoundsFrom : List (List ℕ) → ℕ → ℕ → List (List ℕ) → List (List ℕ) → Type 0

@@ -1,7 +1,5 @@
 -- Examples of docs/DEFINITIONS.md, computed: closing orders.
-use Rattle.std.proofs.Common.{◌≡◌, [], ◌∷◌, refl}
-use Rattle.verity_plan.specs.Settings.{least_from}
-use Rattle.verity_plan.specs.Plans.{level_count}
+use Rattle.{std.proofs.Common.{◌≡◌, [], ◌∷◌, refl}, verity_plan.specs.{Settings.least_from, Plans.level_count}}
 use Rattle.verity_blocks.specs.ClosingOrder.{block_index, closed_after}
 
 closed_after_17 : closed_after 16 17 17 ≡ block_index 0 0 ∷ block_index 0 1 ∷ block_index 1 0 ∷ []

@@ -1,12 +1,10 @@
 -- The closing order, in which hash blocks close, and so are written and compared, as the data blocks come one after
 -- another: a block closes when it is full, or with the last data block. That order is this project's own; the kernel's
 -- pages leave it open.
-use Rattle.std.specs.Prelude.{◌≡◌, ◌<◌, ℕ, zero, suc, ◌+◌, ◌-◌, ◌/◌, ◌%◌, ◌^◌, Bool, ◌||◌, ◌&&◌, ◌==◌, List, [], ◌∷◌, ◌++◌}
-use Rattle.std.specs.Prelude.{map, filter, min, nat_lt, ◌*◌, if◌then◌else◌}
+use Rattle.std.specs.Prelude.{◌≡◌, ◌<◌, ℕ, zero, suc, ◌+◌, ◌-◌, ◌/◌, ◌%◌, ◌^◌, Bool, ◌||◌, ◌&&◌, ◌==◌, List, [], ◌∷◌, ◌++◌, map, filter}
+use Rattle.std.specs.Prelude.{min, nat_lt, ◌*◌, if◌then◌else◌}
 use Rattle.std.specs.List.{range_with_len, count_by}
-use Rattle.verity_plan.specs.Plans.{level_count, IsTreeBlock, PlanFields}
-use Rattle.verity_plan.specs.PlanCounts.{level_count_of}
-use Rattle.verity_plan.specs.Settings.{TreeSettingsFields, fan}
+use Rattle.verity_plan.specs.{Plans.{level_count, IsTreeBlock, PlanFields}, PlanCounts.level_count_of, Settings.{TreeSettingsFields, fan}}
 
 -- a hash block of a tree, by its level and its index in the level
 pub record BlockIndex : Type 0 where

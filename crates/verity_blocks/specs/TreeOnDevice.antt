@@ -1,8 +1,7 @@
 -- What a device holds of a tree: each hash block at its place (cryptsetup's on-disk format page; Linux kernel,
 -- dm-verity page, "On-disk format").
 use Rattle.std.specs.Prelude.{◌≡◌, ℕ, ◌≤◌, List, [], length, slice_index_or, take, drop}
-use Rattle.verity_plan.specs.Plans.{PlanFields, start_byte_of, HasBlock}
-use Rattle.verity_plan.specs.Settings.{TreeSettingsFields}
+use Rattle.verity_plan.specs.{Plans.{PlanFields, start_byte_of, HasBlock}, Settings.TreeSettingsFields}
 use Rattle.verity_blocks.specs.Levels.{level, data_blocks, root}
 
 -- block j of level l above these data blocks

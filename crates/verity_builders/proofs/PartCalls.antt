@@ -1,51 +1,28 @@
 -- A tree that is built from parts, each in calls of its own, in any order and at the same time, and joined by their
 -- digests.
-use Rattle.std.proofs.Common.{◌≡◌, ℕ, zero, suc, ◌+◌, ◌*◌, ◌/◌, ◌<◌, ◌≤◌, List, [], ◌∷◌, ◌++◌, length, take, drop}
-use Rattle.std.proofs.Common.{Option, Some, None, arith, refl, sym, subst, ◌∙◌, ap, inl, inr, append_assoc}
-use Rattle.std.proofs.Common.{length-append}
-use Rattle.std.proofs.lemmas.Bool.{cases_lt}
-use Rattle.std.proofs.lemmas.List.{append-nil}
-use Rattle.std.proofs.lemmas.List.Concat.{flat_map-append}
-use Rattle.std.proofs.lemmas.List.Elements.{All-append, All-cons, All-contains, All-contains_itself, All-head, All-nil}
-use Rattle.std.proofs.lemmas.List.Elements.{All-tail, All-weaker, Contains-append_left, Contains-append_right}
-use Rattle.std.proofs.lemmas.List.Elements.{Contains-push}
-use Rattle.std.proofs.lemmas.List.Sums.{sum_by-append}
-use Rattle.std.proofs.Math.Nat.{div-mul-le_self, le_of_mul-le-mul_right}
-use Rattle.std.proofs.Math.Seq.{drop-append-add}
-use Rattle.std.specs.Fork.{slice_chunk}
-use Rattle.std.specs.List.{All, Contains, flat_map, range_with_len}
-use Rattle.std.specs.Prelude.{◌==◌, ◌&&◌, cond, slice_index_or}
-use Rattle.verity_plan.specs.Plans.{HasBlock, IsPlan, PlanFields}
-use Rattle.verity_plan.specs.PlanCounts.{level_count_of, count_under}
-use Rattle.verity_plan.specs.Settings.{digest_len, fan}
-use Rattle.verity_plan.proofs.CountLemmas.{mul_le}
-use Rattle.verity_plan.proofs.FanLemmas.{digest_len_of-pos, fan-some}
-use Rattle.verity_blocks.specs.ClosingOrder.{BlockIndex, closed_after, times}
-use Rattle.verity_builders.specs.Feeding.{FeedCall, given, written, written_all}
-use Rattle.verity_blocks.specs.Levels.{data_blocks, root}
-use Rattle.verity_builders.specs.Parts.{AreDigests, BuildsFromParts, BuildsJoinInCalls, BuildsPartInCalls, FeedsPartCalls}
-use Rattle.verity_builders.specs.Parts.{HasPart, IsFedPart, IsHandedOutOfJoin, IsHandedOutOfPart, IsJoined}
-use Rattle.verity_builders.specs.PartsBuiltAgain.{AreWrites, IsCallForPart}
-use Rattle.verity_builders.specs.Parts.{JoinInCalls, JoinsCalls, PartInCalls, blocks_under, bytes_of_part, calls_from_parts}
-use Rattle.verity_builders.specs.Parts.{digest_of_part, handed_out_of_join, handed_out_of_part, join_order, part_order}
-use Rattle.verity_builders.specs.Parts.{plan_of_part}
-use Rattle.verity_blocks.proofs.Order.HandedOut.{first-closed}
-use Rattle.verity_blocks.specs.Steps.Feeding.{Stands}
-use Rattle.verity_blocks.specs.TreeWriting.{device_with}
-use Rattle.verity_builders.specs.declared.join_builder.JoinBuilder.{JoinBuilder}
-use Rattle.verity_builders.specs.declared.part_builder.PartBuilder.{PartBuilder}
-use Rattle.verity_blocks.specs.declared.hash_block.HashBlock.{HashBlock}
-use Rattle.verity_builders.proofs.Parts.WrittenInAnyOrder.{any-order}
-use Rattle.verity_blocks.proofs.Levels.FirstBlocks.{chunk-front}
-use Rattle.verity_blocks.proofs.Levels.CutBlocks.{length-cut}
-use Rattle.verity_blocks.proofs.OpenBlocks.OpenBlock.{length-hash}
-use Rattle.verity_blocks.proofs.Order.ClosesOnce.{ClosesOnce-all}
-use Rattle.verity_blocks.proofs.Order.ClosingInTurn.{device_with-append}
-use Rattle.verity_builders.proofs.Parts.PartEnds.{join-all, join-none, part-all, part-none}
-use Rattle.verity_builders.proofs.Parts.PartMemory.{part-bytes-most}
-use Rattle.verity_builders.proofs.Parts.PartsInOrder.{handed_out-has, parts-once, range-more}
-use Rattle.verity_builders.proofs.Parts.PartInWhole.{part-last-below}
+use Rattle.std.proofs.Common.{◌≡◌, ℕ, zero, suc, ◌+◌, ◌*◌, ◌/◌, ◌<◌, ◌≤◌, List, [], ◌∷◌, ◌++◌, length, take, drop, Option, Some, None}
+use Rattle.std.proofs.{Common.{arith, refl, sym, subst, ◌∙◌, ap, inl, inr, append_assoc, length-append}, lemmas.Bool.cases_lt}
+use Rattle.std.proofs.lemmas.List.{append-nil, Concat.flat_map-append}
+use Rattle.std.proofs.lemmas.List.Elements.{All-append, All-cons, All-contains, All-contains_itself, All-head, All-nil, All-tail}
+use Rattle.std.proofs.lemmas.List.{Elements.{All-weaker, Contains-append_left, Contains-append_right, Contains-push}, Sums.sum_by-append}
+use Rattle.std.{proofs.Math.{Nat.{div-mul-le_self, le_of_mul-le-mul_right}, Seq.drop-append-add}, specs.Fork.slice_chunk}
+use Rattle.std.specs.{List.{All, Contains, flat_map, range_with_len}, Prelude.{◌==◌, ◌&&◌, cond, slice_index_or}}
+use Rattle.verity_plan.specs.{Plans.{HasBlock, IsPlan, PlanFields}, PlanCounts.{level_count_of, count_under}, Settings.{digest_len, fan}}
+use Rattle.verity_plan.proofs.{CountLemmas.mul_le, FanLemmas.{digest_len_of-pos, fan-some}}
+use Rattle.verity_blocks.specs.{ClosingOrder.{BlockIndex, closed_after, times}, Levels.{data_blocks, root}, Steps.Feeding.Stands}
+use Rattle.verity_blocks.{specs.{TreeWriting.device_with, declared.hash_block.HashBlock.HashBlock}, proofs.Order.HandedOut.first-closed}
+use Rattle.verity_blocks.proofs.{Order.{ClosesOnce.ClosesOnce-all, ClosingInTurn.device_with-append}, Levels.FirstBlocks.chunk-front}
+use Rattle.verity_blocks.proofs.{Levels.CutBlocks.length-cut, OpenBlocks.OpenBlock.length-hash}
 use Rattle.verity_blocks.proofs.JoinedLists.{flat_map-same, length-pieces, piece}
+use Rattle.verity_builders.specs.Feeding.{FeedCall, given, written, written_all}
+use Rattle.verity_builders.specs.Parts.{AreDigests, BuildsFromParts, BuildsJoinInCalls, BuildsPartInCalls, FeedsPartCalls, HasPart}
+use Rattle.verity_builders.specs.Parts.{IsFedPart, IsHandedOutOfJoin, IsHandedOutOfPart, IsJoined, JoinInCalls, JoinsCalls, PartInCalls}
+use Rattle.verity_builders.specs.Parts.{blocks_under, bytes_of_part, calls_from_parts, digest_of_part, handed_out_of_join}
+use Rattle.verity_builders.specs.Parts.{handed_out_of_part, join_order, part_order, plan_of_part}
+use Rattle.verity_builders.specs.{PartsBuiltAgain.{AreWrites, IsCallForPart}, declared.join_builder.JoinBuilder.JoinBuilder}
+use Rattle.verity_builders.{specs.declared.part_builder.PartBuilder.PartBuilder, proofs.Parts.WrittenInAnyOrder.any-order}
+use Rattle.verity_builders.proofs.Parts.{PartEnds.{join-all, join-none, part-all, part-none}, PartMemory.part-bytes-most}
+use Rattle.verity_builders.proofs.Parts.{PartsInOrder.{handed_out-has, parts-once, range-more}, PartInWhole.part-last-below}
 
 -- ---- calls in any order
 

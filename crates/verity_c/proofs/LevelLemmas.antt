@@ -1,12 +1,7 @@
 -- Each level has a first block.
-use Rattle.std.proofs.Common.{ℕ, ◌+◌, ◌^◌, ◌<◌, subst}
-use Rattle.std.proofs.Math.Nat.{zero-div}
-use Rattle.verity_plan.specs.Plans.{HasBlock, IsPlan, PlanFields}
-use Rattle.verity_plan.specs.PlanCounts.{level_count_of}
-use Rattle.verity_plan.specs.Settings.{fan}
-use Rattle.verity_plan.proofs.FanLemmas.{fan-some}
-use Rattle.verity_plan.proofs.IndexLemmas.{HasBlock-above}
-use Rattle.verity_plan.proofs.PlanLemmas.{blocks-some}
+use Rattle.std.proofs.{Common.{ℕ, ◌+◌, ◌^◌, ◌<◌, subst}, Math.Nat.zero-div}
+use Rattle.verity_plan.{specs.{Plans.{HasBlock, IsPlan, PlanFields}, PlanCounts.level_count_of, Settings.fan}, proofs.FanLemmas.fan-some}
+use Rattle.verity_plan.proofs.{IndexLemmas.HasBlock-above, PlanLemmas.blocks-some}
 
 -- the first block of a level is the one above data block 0
 pub HasBlock-first : (p : PlanFields) (l : ℕ) → IsPlan p → l < level_count_of p → HasBlock p l 0

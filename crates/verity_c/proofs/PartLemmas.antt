@@ -1,15 +1,9 @@
 -- What the builder of a part has answered is what the library for C says of it.
 use Rattle.std.proofs.Common.{◌≡◌, ◌≢◌, ◌<◌, ◌≤◌, ◌+◌, ◌*◌, ℕ, List, ◌++◌, Result, Ok, ap, refl, rules}
-use Rattle.verity_plan.specs.Plans.{PlanFields}
-use Rattle.verity_builders.specs.Feeding.{given}
-use Rattle.verity_builders.specs.Parts.{FeedsPart, IsFedPart, IsPlacedOfPart, TakesOfPart}
-use Rattle.verity_builders.specs.declared.part_builder.PartBuilder.{PartBuilder}
-use Rattle.verity_builders.specs.declared.tree_builder.Fed.{Fed}
-use Rattle.verity_c_api.specs.Building.{block_of, fed_of}
-use Rattle.verity_c_api.specs.Parts.{HandsOutOfPart, IsFedPartTo, TakesPartPiece, part_builder_of}
-use Rattle.verity_c_api.specs.declared.build.VerityFed.{VerityFed}
-use Rattle.verity_c_api.specs.declared.build.VerityPart.{VerityPart}
-use Rattle.verity_c_api.specs.declared.fault.Fault.{Fault}
+use Rattle.{verity_plan.specs.Plans.PlanFields, verity_builders.specs.declared.{part_builder.PartBuilder.PartBuilder, tree_builder.Fed.Fed}}
+use Rattle.verity_builders.specs.{Feeding.given, Parts.{FeedsPart, IsFedPart, IsPlacedOfPart, TakesOfPart}}
+use Rattle.verity_c_api.specs.{Building.{block_of, fed_of}, Parts.{HandsOutOfPart, IsFedPartTo, TakesPartPiece, part_builder_of}}
+use Rattle.verity_c_api.specs.declared.{build.{VerityFed.VerityFed, VerityPart.VerityPart}, fault.Fault.Fault}
 use Rattle.verity_c_api.proofs.AnswerLemmas.{list-said, says-of, within-said}
 
 -- the numbers of a builder, of which with its plan it is made

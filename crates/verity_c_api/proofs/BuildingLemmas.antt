@@ -1,28 +1,14 @@
 -- What a builder has answered is what the library for C says of it.
-use Rattle.std.proofs.Common.{◌≡◌, ◌≢◌, ◌<◌, ◌≤◌, ◌+◌, ◌*◌, ℕ, Bool, true, false, List, [], ◌∷◌, ◌++◌}
-use Rattle.std.proofs.Common.{Some, None, Ok, if◌then◌else◌, arith, ap, refl}
-use Rattle.std.proofs.Common.{rules, subst, ◌∙◌}
-use Rattle.std.proofs.lemmas.Bool.Decides.{nat_tests}
-use Rattle.std.specs.Prelude.{◌==◌}
-use Rattle.verity_plan.specs.Plans.{PlanFields}
-use Rattle.verity_plan.specs.PlanCounts.{level_count_of}
-use Rattle.verity_plan.specs.Settings.{TreeSettingsFields}
-use Rattle.verity_blocks.specs.ClosingOrder.{block_index}
-use Rattle.verity_builders.specs.Feeding.{Feeds, IsFed, IsFedFile, Takes, given}
-use Rattle.verity_builders.specs.declared.file_builder.FileBuilder.{FileBuilder}
-use Rattle.verity_builders.specs.declared.tree_builder.Fed.{Fed}
-use Rattle.verity_blocks.specs.declared.hash_block.HashBlock.{HashBlock}
-use Rattle.verity_builders.specs.declared.tree_builder.TreeBuilder.{TreeBuilder}
-use Rattle.verity_c_api.proofs.AnswerLemmas.{list-said, says-of, within-said}
-use Rattle.verity_c_api.proofs.ParameterLemmas.{one_value, tree_of_sized}
-use Rattle.verity_c_api.specs.Building.{HandsOut, IsFedFileTo, IsFedTo, TakesPiece, block_of, builder_of}
-use Rattle.verity_c_api.specs.Building.{fed_of, file_builder_of, given_by}
-use Rattle.verity_c_api.specs.BuildingLoop.{hash_block_by}
-use Rattle.verity_c_api.specs.Parameters.{fsverity_tree_of, plan_of}
-use Rattle.verity_c_api.specs.declared.build.VerityBuild.{VerityBuild}
-use Rattle.verity_c_api.specs.declared.build.VerityFed.{VerityFed}
-use Rattle.verity_c_api.specs.declared.parameters.FsverityParams.{FsverityParams}
-use Rattle.verity_c_api.specs.declared.parameters.VerityParams.{VerityParams}
+use Rattle.std.proofs.Common.{◌≡◌, ◌≢◌, ◌<◌, ◌≤◌, ◌+◌, ◌*◌, ℕ, Bool, true, false, List, [], ◌∷◌, ◌++◌, Some, None, Ok, if◌then◌else◌, arith}
+use Rattle.std.{proofs.{Common.{ap, refl, rules, subst, ◌∙◌}, lemmas.Bool.Decides.nat_tests}, specs.Prelude.◌==◌}
+use Rattle.verity_plan.specs.{Plans.PlanFields, PlanCounts.level_count_of, Settings.TreeSettingsFields}
+use Rattle.verity_blocks.specs.{ClosingOrder.block_index, declared.hash_block.HashBlock.HashBlock}
+use Rattle.verity_builders.specs.{Feeding.{Feeds, IsFed, IsFedFile, Takes, given}, declared.file_builder.FileBuilder.FileBuilder}
+use Rattle.verity_builders.specs.declared.tree_builder.{Fed.Fed, TreeBuilder.TreeBuilder}
+use Rattle.verity_c_api.proofs.{AnswerLemmas.{list-said, says-of, within-said}, ParameterLemmas.{one_value, tree_of_sized}}
+use Rattle.verity_c_api.specs.Building.{HandsOut, IsFedFileTo, IsFedTo, TakesPiece, block_of, builder_of, fed_of, file_builder_of, given_by}
+use Rattle.verity_c_api.specs.{BuildingLoop.hash_block_by, Parameters.{fsverity_tree_of, plan_of}, declared.build.VerityBuild.VerityBuild}
+use Rattle.verity_c_api.specs.declared.{build.VerityFed.VerityFed, parameters.{FsverityParams.FsverityParams, VerityParams.VerityParams}}
 
 -- a builder of a plan is that of the plan and its two numbers
 pub builder_of-parts : (p : PlanFields) (b : TreeBuilder) → b.plan ≡ p

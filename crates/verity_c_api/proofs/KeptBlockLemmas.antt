@@ -1,26 +1,14 @@
 -- Blocks that calls accept one after another are the tree's.
-use Rattle.std.proofs.Common.{◌≡◌, ℕ, Bool, true, false, List, length, Result, Ok, Err, if◌then◌else◌}
-use Rattle.std.proofs.Common.{inl, inr, refl, subst, sym}
-use Rattle.std.specs.Prelude.{◌==◌}
-use Rattle.verity_plan.specs.Plans.{IsPlan, PlanFields}
-use Rattle.verity_plan.specs.Settings.{digest_len}
-use Rattle.verity_pass.proofs.KeptBlocks.{kept-true}
-use Rattle.verity_blocks.specs.Levels.{data_blocks, root}
-use Rattle.verity_pass.specs.KeptBlocks.{AreAccepted, AreTrueOrCollide, CheckedBlock, IsAcceptedAsTop}
-use Rattle.verity_pass.specs.KeptBlocks.{IsAcceptedUnder}
-use Rattle.verity_pass.specs.Links.{checked_link, checked_top}
-use Rattle.verity_pass.specs.declared.link.LinkFault.{LinkFault}
+use Rattle.std.proofs.Common.{◌≡◌, ℕ, Bool, true, false, List, length, Result, Ok, Err, if◌then◌else◌, inl, inr, refl, subst, sym}
+use Rattle.{std.specs.Prelude.◌==◌, verity_plan.specs.{Plans.{IsPlan, PlanFields}, Settings.digest_len}}
+use Rattle.verity_pass.{proofs.KeptBlocks.kept-true, specs.{Links.{checked_link, checked_top}, declared.link.LinkFault.LinkFault}}
+use Rattle.verity_pass.specs.KeptBlocks.{AreAccepted, AreTrueOrCollide, CheckedBlock, IsAcceptedAsTop, IsAcceptedUnder}
+use Rattle.{verity_blocks.specs.Levels.{data_blocks, root}, verity_c_api.specs.declared.parameters.VerityParams.VerityParams}
+use Rattle.verity_c_api.{proofs.{ParameterLemmas.{file_plan-made, plan-made}, StatusLemmas.fault-not_done}, specs.Answers.top_status_in}
+use Rattle.verity_c_api.specs.{KeptBlocks.{AreAcceptedByCalls, IsTopByCall, IsUnderByCall}, Parameters.{fsverity_plan_of, plan_of}}
+use Rattle.verity_c_api.specs.{Statuses.{done, link_status}, declared.{fault.Fault.Fault, parameters.FsverityParams.FsverityParams}}
 use Rattle.verity_pass.specs.declared.link.LinkFault.TheVariants as of_link
-use Rattle.verity_c_api.proofs.ParameterLemmas.{file_plan-made, plan-made}
-use Rattle.verity_c_api.proofs.StatusLemmas.{fault-not_done}
-use Rattle.verity_c_api.specs.Answers.{top_status_in}
-use Rattle.verity_c_api.specs.KeptBlocks.{AreAcceptedByCalls, IsTopByCall, IsUnderByCall}
-use Rattle.verity_c_api.specs.Parameters.{fsverity_plan_of, plan_of}
-use Rattle.verity_c_api.specs.Statuses.{done, link_status}
-use Rattle.verity_c_api.specs.declared.fault.Fault.{Fault}
 use Rattle.verity_c_api.specs.declared.fault.Fault.TheVariants as fault
-use Rattle.verity_c_api.specs.declared.parameters.FsverityParams.{FsverityParams}
-use Rattle.verity_c_api.specs.declared.parameters.VerityParams.{VerityParams}
 
 -- with the status of a call that is done, a block was accepted
 link-accepted : (answer : Result Unit LinkFault) → link_status answer ≡ done → answer ≡ Ok tt

@@ -1,20 +1,10 @@
 -- The longest paths, and the most memory.
-use Rattle.std.proofs.Common.{◌≡◌, ◌+◌, ◌*◌, true, [], Ok, arith, refl}
-use Rattle.std.proofs.lemmas.Bool.Decides.{nat_tests}
-use Rattle.std.proofs.lemmas.Nat.{ones_cat}
-use Rattle.std.specs.Int.{is_power_of_two}
-use Rattle.std.specs.Int.Count.{ones, ones_in}
-use Rattle.std.specs.Prelude.{count_ones}
-use Rattle.verity_hash.specs.declared.algorithm.Algorithm.TheVariants.{Sha512}
-use Rattle.verity_hash.specs.declared.salting.SaltRule.TheVariants.{Before, PaddedBefore}
-use Rattle.verity_plan.specs.Plans.{PlanFields, level_count}
-use Rattle.verity_plan.specs.PlanCounts.{level_count_of}
-use Rattle.verity_plan.specs.Settings.{fan, least_from, log2, slot_count}
-use Rattle.verity_blocks.specs.Windows.{window_blocks}
-use Rattle.verity_c_api.specs.Building.{file_memory_length_of, memory_length_of}
-use Rattle.verity_c_api.specs.Parameters.{fsverity_plan_of, fsverity_tree_of, plan_of}
-use Rattle.verity_c_api.specs.declared.parameters.FsverityParams.{FsverityParams}
-use Rattle.verity_c_api.specs.declared.parameters.VerityParams.{VerityParams}
+use Rattle.std.proofs.{Common.{◌≡◌, ◌+◌, ◌*◌, true, [], Ok, arith, refl}, lemmas.{Bool.Decides.nat_tests, Nat.ones_cat}}
+use Rattle.{std.specs.{Int.{is_power_of_two, Count.{ones, ones_in}}, Prelude.count_ones}, verity_blocks.specs.Windows.window_blocks}
+use Rattle.verity_hash.specs.declared.{algorithm.Algorithm.TheVariants.Sha512, salting.SaltRule.TheVariants.{Before, PaddedBefore}}
+use Rattle.verity_plan.specs.{Plans.{PlanFields, level_count}, PlanCounts.level_count_of, Settings.{fan, least_from, log2, slot_count}}
+use Rattle.verity_c_api.specs.{Building.{file_memory_length_of, memory_length_of}, Parameters.{fsverity_plan_of, fsverity_tree_of, plan_of}}
+use Rattle.verity_c_api.specs.declared.parameters.{FsverityParams.FsverityParams, VerityParams.VerityParams}
 
 one_bit : count_ones 1 ≡ 1
 unfolding ones ones_in

@@ -1,13 +1,9 @@
 -- What the library for C says of a hash function by its number in verity.h: the length of its digests, its name, and
 -- the form in which a file digest by it is signed.
 use Rattle.std.specs.Prelude.{ℕ, ◌+◌, ◌==◌, ◌&&◌, List, length, Option, Some, None, Result, Ok, Err, if◌then◌else◌}
-use Rattle.verity_format.specs.Descriptors.{formatted_digest}
-use Rattle.verity_hash.specs.Hashing.{digest_len_of, name_of}
-use Rattle.verity_hash.specs.declared.algorithm.Algorithm.{Algorithm}
-use Rattle.verity_plan.specs.Settings.{is_of_fsverity}
-use Rattle.verity_c_api.specs.Parameters.{number_of}
-use Rattle.verity_c_api.specs.Texts.{text_length_in, with_text}
-use Rattle.verity_c_api.specs.declared.fault.Fault.{Fault}
+use Rattle.{verity_format.specs.Descriptors.formatted_digest, verity_plan.specs.Settings.is_of_fsverity}
+use Rattle.verity_hash.specs.{Hashing.{digest_len_of, name_of}, declared.algorithm.Algorithm.Algorithm}
+use Rattle.verity_c_api.specs.{Parameters.number_of, Texts.{text_length_in, with_text}, declared.fault.Fault.Fault}
 use Rattle.verity_c_api.specs.declared.fault.Fault.TheVariants as fault
 
 -- the length of its digests

@@ -1,24 +1,15 @@
 -- The loop that verity.h shows: a tree is built by calls of verity_build_feed, and each hash block that is handed out
 -- is written. What such calls have answered, and what is there when the last one hands out none. Of the loop for a
 -- file's tree, by calls of fsverity_tree_build_feed, it is said only when it goes on.
-use Rattle.std.specs.Prelude.{◌≡◌, ◌≢◌, ◌⊎◌, ◌<◌, ⊤, ℕ, ◌==◌, List, [], ◌∷◌, ◌++◌, length, map, take, drop, Option, Some}
-use Rattle.std.specs.Prelude.{None, Ok, IfOk, if◌then◌else◌}
-use Rattle.std.specs.List.{flat_map}
-use Rattle.verity_plan.specs.Plans.{PlanFields}
-use Rattle.verity_plan.specs.Settings.{digest_len}
+use Rattle.std.specs.Prelude.{◌≡◌, ◌≢◌, ◌⊎◌, ◌<◌, ⊤, ℕ, ◌==◌, List, [], ◌∷◌, ◌++◌, length, map, take, drop, Option, Some, None, Ok, IfOk}
+use Rattle.std.specs.Prelude.{if◌then◌else◌}
+use Rattle.{std.specs.List.flat_map, verity_plan.specs.{Plans.PlanFields, Settings.digest_len}}
 use Rattle.verity_builders.specs.Feeding.{BuildsInCalls, FeedCall, written_all}
-use Rattle.verity_blocks.specs.Levels.{data_blocks, root}
-use Rattle.verity_blocks.specs.TreeOnDevice.{HoldsTree}
-use Rattle.verity_blocks.specs.declared.hash_block.HashBlock.{HashBlock}
-use Rattle.verity_c_api.specs.Building.{HandsOut, IsFedTo, TakesPiece, block_of, root_in, with_all_fed, with_memory}
-use Rattle.verity_c_api.specs.Building.{with_file_memory, with_piece}
-use Rattle.verity_c_api.specs.FileTrees.{TakesFilePiece, with_tree_piece}
-use Rattle.verity_c_api.specs.Parameters.{fsverity_tree_of, plan_of}
-use Rattle.verity_c_api.specs.Statuses.{done, status_of}
-use Rattle.verity_c_api.specs.declared.build.VerityBuild.{VerityBuild}
-use Rattle.verity_c_api.specs.declared.build.VerityFed.{VerityFed}
-use Rattle.verity_c_api.specs.declared.parameters.FsverityParams.{FsverityParams}
-use Rattle.verity_c_api.specs.declared.parameters.VerityParams.{VerityParams}
+use Rattle.verity_blocks.specs.{Levels.{data_blocks, root}, TreeOnDevice.HoldsTree, declared.hash_block.HashBlock.HashBlock}
+use Rattle.verity_c_api.specs.Building.{HandsOut, IsFedTo, TakesPiece, block_of, root_in, with_all_fed, with_memory, with_file_memory}
+use Rattle.verity_c_api.specs.{Building.with_piece, FileTrees.{TakesFilePiece, with_tree_piece}, Parameters.{fsverity_tree_of, plan_of}}
+use Rattle.verity_c_api.specs.{Statuses.{done, status_of}, declared.build.{VerityBuild.VerityBuild, VerityFed.VerityFed}}
+use Rattle.verity_c_api.specs.declared.parameters.{FsverityParams.FsverityParams, VerityParams.VerityParams}
 
 -- what is kept between two calls
 pub record Kept : Type 0 where

@@ -1,13 +1,8 @@
 -- Blocks for which calls of verity_check_top and verity_check_link, or of fsverity_check_top and fsverity_check_link,
 -- have answered 0: the top one with the root hash, each other with a block for which a call before had.
 use Rattle.std.specs.Prelude.{◌≡◌, ◌⊎◌, ◌<◌, ℕ, ◌+◌, ◌/◌, ◌^◌, List, Result}
-use Rattle.verity_plan.specs.Plans.{PlanFields}
-use Rattle.verity_plan.specs.PlanCounts.{level_count_of}
-use Rattle.verity_plan.specs.Settings.{fan}
-use Rattle.verity_pass.specs.KeptBlocks.{CheckedBlock}
-use Rattle.verity_c_api.specs.Answers.{link_status_in, top_status_in, with_root}
-use Rattle.verity_c_api.specs.Statuses.{done}
-use Rattle.verity_c_api.specs.declared.fault.Fault.{Fault}
+use Rattle.{verity_plan.specs.{Plans.PlanFields, PlanCounts.level_count_of, Settings.fan}, verity_pass.specs.KeptBlocks.CheckedBlock}
+use Rattle.verity_c_api.specs.{Answers.{link_status_in, top_status_in, with_root}, Statuses.done, declared.fault.Fault.Fault}
 
 -- verity_check_top, or fsverity_check_top, has answered 0 for a block of the top level
 pub record IsTopByCall (made : Result PlanFields Fault) (p : PlanFields) (root : List ℕ) (b : CheckedBlock) : Type 0

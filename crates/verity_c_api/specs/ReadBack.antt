@@ -1,12 +1,8 @@
 -- What comes back if a superblock is written from parameters and read again.
 use Rattle.std.specs.Prelude.{◌≡◌, ℕ, List, length, take, None, Ok}
-use Rattle.verity_hash.specs.Hashing.{with_zeros}
-use Rattle.verity_format.specs.CheckedSuperblocks.{superblock_fault}
-use Rattle.verity_plan.specs.Plans.{superblock_size}
-use Rattle.verity_plan.specs.Settings.{most_verity_salt}
-use Rattle.verity_c_api.specs.Answers.{ReadsParameters, superblock_in}
-use Rattle.verity_c_api.specs.Parameters.{plan_of}
-use Rattle.verity_c_api.specs.declared.parameters.VerityParams.{VerityParams}
+use Rattle.{verity_hash.specs.Hashing.with_zeros, verity_format.specs.CheckedSuperblocks.superblock_fault}
+use Rattle.verity_plan.specs.{Plans.superblock_size, Settings.most_verity_salt}
+use Rattle.verity_c_api.specs.{Answers.{ReadsParameters, superblock_in}, Parameters.plan_of, declared.parameters.VerityParams.VerityParams}
 
 -- salt and UUID are as long as the fields of the struct
 pub record HasFields (params : VerityParams) : Type 0 where

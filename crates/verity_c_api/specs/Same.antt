@@ -1,9 +1,7 @@
 -- What a comparison of parameters with trusted ones answers.
 use Rattle.std.specs.Prelude.{◌≡◌, ◌⊎◌, ℤ, Result, Ok, Err}
 use Rattle.verity_plan.specs.Plans.{PlanFields}
-use Rattle.verity_c_api.specs.Statuses.{done, fault_status}
-use Rattle.verity_c_api.specs.declared.fault.Fault.{Fault}
-use Rattle.verity_c_api.specs.declared.fault.Fault.TheVariants.{Differs}
+use Rattle.verity_c_api.specs.{Statuses.{done, fault_status}, declared.fault.Fault.{Fault, TheVariants.Differs}}
 
 -- trees of the same data blocks are the same: settings and number of data blocks are equal
 pub record IsSame (p q : PlanFields) : Type 0 where

@@ -1,22 +1,17 @@
 -- The statuses of the library for C, by the numbers that verity.h gives them (this project's own).
 use Rattle.std.specs.Prelude.{ℕ, ℤ, pos, neg_ℤ, Result, Ok, Err}
-use Rattle.verity_format.specs.declared.super_fault.SuperFault.{SuperFault}
+use Rattle.{verity_format.specs.declared.super_fault.SuperFault.SuperFault, verity_builders.specs.declared.feed_fault.FeedFault.FeedFault}
+use Rattle.verity_plan.specs.declared.{plan_fault.PlanFault.PlanFault, setting_fault.SettingFault.SettingFault}
+use Rattle.{verity_pass.specs.declared.{link.LinkFault.LinkFault, path.PathFault.PathFault}, verity_c_api.specs.declared.fault.Fault.Fault}
+use Rattle.verity_c_api.specs.declared.fault.Fault.TheVariants.{Differs, Index, Level, Length, Root, Algorithm, HashType, DataBlockSize}
+use Rattle.verity_c_api.specs.declared.fault.Fault.TheVariants.{HashBlockSize, SaltSize, HashOffset, NoData, TooLarge, Short, Signature}
+use Rattle.verity_c_api.specs.declared.fault.Fault.TheVariants.{Version, TooLong, TooShort, Waiting, Part}
 use Rattle.verity_format.specs.declared.super_fault.SuperFault.TheVariants as superblock
-use Rattle.verity_plan.specs.declared.plan_fault.PlanFault.{PlanFault}
 use Rattle.verity_plan.specs.declared.plan_fault.PlanFault.TheVariants as plan
-use Rattle.verity_plan.specs.declared.setting_fault.SettingFault.{SettingFault}
 use Rattle.verity_plan.specs.declared.setting_fault.SettingFault.TheVariants as setting
-use Rattle.verity_builders.specs.declared.feed_fault.FeedFault.{FeedFault}
 use Rattle.verity_builders.specs.declared.feed_fault.FeedFault.TheVariants as feed
-use Rattle.verity_pass.specs.declared.link.LinkFault.{LinkFault}
 use Rattle.verity_pass.specs.declared.link.LinkFault.TheVariants as link
-use Rattle.verity_pass.specs.declared.path.PathFault.{PathFault}
 use Rattle.verity_pass.specs.declared.path.PathFault.TheVariants as path
-use Rattle.verity_c_api.specs.declared.fault.Fault.{Fault}
-use Rattle.verity_c_api.specs.declared.fault.Fault.TheVariants.{Differs, Index, Level, Length, Root, Algorithm}
-use Rattle.verity_c_api.specs.declared.fault.Fault.TheVariants.{HashType, DataBlockSize, HashBlockSize, SaltSize}
-use Rattle.verity_c_api.specs.declared.fault.Fault.TheVariants.{HashOffset, NoData, TooLarge, Short, Signature, Version}
-use Rattle.verity_c_api.specs.declared.fault.Fault.TheVariants.{TooLong, TooShort, Waiting, Part}
 
 -- the status of a call that has done what it is for
 abbrev pub done : ℤ

@@ -1,12 +1,10 @@
 -- The texts of the library for C: what a status means, and the name of a hash function; and a buffer that a text is
 -- written into, with a zero after it, as texts of C end.
-use Rattle.std.specs.Prelude.{ℕ, ℤ, pos, int_lt, unsigned_abs, ◌+◌, ◌==◌, List, ◌∷◌, ◌++◌, codes, drop, length}
-use Rattle.std.specs.Prelude.{nat_lt, Option, Some, None, Result, Ok, Err, if◌then◌else◌}
-use Rattle.verity_c_api.specs.declared.fault.Fault.{Fault}
-use Rattle.verity_c_api.specs.declared.fault.Fault.TheVariants.{Differs, Index, Level, Length, Root, Algorithm}
-use Rattle.verity_c_api.specs.declared.fault.Fault.TheVariants.{HashType, DataBlockSize, HashBlockSize, SaltSize}
-use Rattle.verity_c_api.specs.declared.fault.Fault.TheVariants.{HashOffset, NoData, TooLarge, Short, Signature, Version}
-use Rattle.verity_c_api.specs.declared.fault.Fault.TheVariants.{TooLong, TooShort, Waiting, Part}
+use Rattle.std.specs.Prelude.{ℕ, ℤ, pos, int_lt, unsigned_abs, ◌+◌, ◌==◌, List, ◌∷◌, ◌++◌, codes, drop, length, nat_lt, Option, Some, None}
+use Rattle.std.specs.Prelude.{Result, Ok, Err, if◌then◌else◌}
+use Rattle.verity_c_api.specs.declared.fault.Fault.{Fault, TheVariants.{Version, TooLong, TooShort, Waiting, Part}}
+use Rattle.verity_c_api.specs.declared.fault.Fault.TheVariants.{Differs, Index, Level, Length, Root, Algorithm, HashType, DataBlockSize}
+use Rattle.verity_c_api.specs.declared.fault.Fault.TheVariants.{HashBlockSize, SaltSize, HashOffset, NoData, TooLarge, Short, Signature}
 
 -- what a fault is, in words
 abbrev pub text_of_fault : Fault → List ℕ

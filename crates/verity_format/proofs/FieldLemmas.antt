@@ -1,11 +1,8 @@
 -- A block that is written field by field.
-use Rattle.std.proofs.Common.{◌≡◌, ℕ, ◌+◌, ◌-◌, ◌≤◌, List, ◌++◌, length, take, drop, replicate, arith, sym, ap, ◌∙◌}
-use Rattle.std.proofs.Common.{append_assoc, length-append}
-use Rattle.std.proofs.Math.Seq.{take-add}
-use Rattle.std.proofs.lemmas.List.{drop-replicate, drop_at, length-replicate, length-take-le}
-use Rattle.std.proofs.lemmas.List.{replicate-append-replicate, take-replicate, take_at}
+use Rattle.std.proofs.Common.{◌≡◌, ℕ, ◌+◌, ◌-◌, ◌≤◌, List, ◌++◌, length, take, drop, replicate, arith, sym, ap, ◌∙◌, append_assoc}
+use Rattle.{std.proofs.{Common.length-append, Math.Seq.take-add, lemmas.List.take_at}, verity_hash.specs.Hashing.{with_zeros, IsPadded}}
+use Rattle.std.proofs.lemmas.List.{drop-replicate, drop_at, length-replicate, length-take-le, replicate-append-replicate, take-replicate}
 use borrow.Rule.Slice.PartMut.{put_mid}
-use Rattle.verity_hash.specs.Hashing.{with_zeros, IsPadded}
 
 -- there are as many bytes of fields as were appended
 front_long : (n at : ℕ) (block : List ℕ) → IsPadded n block at → length (take at block) ≡ at

@@ -1,7 +1,6 @@
 -- Which bytes of a superblock say something: all but the pads and the unused bytes of name and salt.
 use Rattle.std.specs.Prelude.{◌≡◌, ◌≢◌, ◌<◌, ◌≤◌, ℕ, ◌+◌, min, List, length, slice_index}
-use Rattle.verity_plan.specs.Plans.{superblock_size}
-use Rattle.verity_format.specs.Superblocks.{number_at}
+use Rattle.{verity_plan.specs.Plans.superblock_size, verity_format.specs.Superblocks.number_at}
 
 -- the same bytes from one offset up to another
 abbrev pub SameBetween : ℕ → ℕ → List ℕ → List ℕ → Type 0

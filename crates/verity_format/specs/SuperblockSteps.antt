@@ -1,10 +1,8 @@
 -- The steps of reading a superblock: its type, then the settings, then the number of data blocks.
 -- For the private functions; not needed to read a public contract.
 use Rattle.std.specs.Prelude.{ℕ, ◌≡◌, Bool, List, length, take, drop, Some}
-use Rattle.verity_hash.specs.Hashing.{algorithm_named}
-use Rattle.verity_plan.specs.Settings.{TreeSettingsFields}
-use Rattle.verity_format.specs.Superblocks.{field, number_at, until_zero}
-use Rattle.verity_format.specs.CheckedSuperblocks.{superblock_tests}
+use Rattle.{verity_hash.specs.Hashing.algorithm_named, verity_plan.specs.Settings.TreeSettingsFields}
+use Rattle.verity_format.specs.{Superblocks.{field, number_at, until_zero}, CheckedSuperblocks.superblock_tests}
 use Rattle.verity_format.specs.declared.super_fault.SuperFault.{SuperFault}
 
 -- the bytes say these settings

@@ -1,6 +1,5 @@
 -- Eight rows of one size.
-use Rattle.std.proofs.Common.{ℕ, ◌+◌, ◌*◌, ◌<◌, ◌≤◌, arith}
-use Rattle.std.proofs.Math.Nat.{mul-le-mul_right}
+use Rattle.std.proofs.{Common.{ℕ, ◌+◌, ◌*◌, ◌<◌, ◌≤◌, arith}, Math.Nat.mul-le-mul_right}
 
 -- row r of n ends within them
 pub rows-within : (r n size : ℕ) → r < n → r * size + size ≤ n * size

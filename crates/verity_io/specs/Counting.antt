@@ -1,7 +1,6 @@
 -- Counts of failures, this project's own: each source and each device keeps one, which stops at the last value of a
 -- u64. And what contracts see of a source or a device before and after a call.
-use Rattle.std.specs.Prelude.{◌≡◌, ℕ, ◌+◌, ◌-◌, ◌^◌, ◌≤◌, min, Bool, true, false, List, Result, Ok, Err, MatchResult}
-use Rattle.std.specs.Prelude.{Option, Some, None}
+use Rattle.std.specs.Prelude.{◌≡◌, ℕ, ◌+◌, ◌-◌, ◌^◌, ◌≤◌, min, Bool, true, false, List, Result, Ok, Err, MatchResult, Option, Some, None}
 use Rattle.verity_io.specs.declared.failed.Failed.{Failed}
 
 -- the last value of a count

@@ -1,8 +1,6 @@
 -- What contracts see of a fused source or device, and what one call of it does, this project's own.
 use Rattle.std.specs.Prelude.{◌≡◌, ℕ, ◌+◌, min, IsErr, Result}
-use Rattle.verity_io.specs.Counting.{last_count, CountsFailure}
-use Rattle.verity_io.specs.declared.failed.Failed.{Failed}
-use Rattle.verity_io.specs.declared.fused.Fused.{Fused}
+use Rattle.verity_io.specs.{Counting.{last_count, CountsFailure}, declared.{failed.Failed.Failed, fused.Fused.Fused}}
 
 -- the value within
 abbrev pub fused_inner : {T : Type 0} → Fused T → T

@@ -1,9 +1,7 @@
 -- What a read or a write at an offset of a file is: lseek(2), and then read(2) or write(2) of POSIX, as far as the file
 -- says where it stands and what bytes it has.
 use Rattle.std.specs.Prelude.{◌≡◌, ℕ, ◌<◌, ◌≤◌, List, length, take, Option, Some, IfSome}
-use Rattle.std.specs.Io.KnownBytes.{Consumes, IsAtEnd, Keeps}
-use Rattle.std.specs.Io.Seek.{StaysAt}
-use Rattle.verity_io.specs.declared.file_device.FileDevice.{FileDevice}
+use Rattle.{std.specs.Io.{KnownBytes.{Consumes, IsAtEnd, Keeps}, Seek.StaysAt}, verity_io.specs.declared.file_device.FileDevice.FileDevice}
 
 -- the file of a device
 abbrev pub file_of : {F : Type 0} → FileDevice F → F

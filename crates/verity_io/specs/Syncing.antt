@@ -2,8 +2,7 @@
 -- without the call answers that it is unsupported).
 -- For the private functions; not needed to read a public contract.
 use Rattle.std.specs.Prelude.{Bool, true, false}
-use Rattle.std.specs.declared.io.ErrorKind.{ErrorKind}
-use Rattle.std.specs.declared.io.ErrorKind.TheVariants.{InvalidInput, Unsupported, ReadOnlyFilesystem}
+use Rattle.std.specs.declared.io.ErrorKind.{ErrorKind, TheVariants.{InvalidInput, Unsupported, ReadOnlyFilesystem}}
 
 abbrev pub cannot_sync : ErrorKind → Bool
 cannot_sync InvalidInput = true

@@ -1,7 +1,6 @@
 -- What a write leaves on a device: pwrite(2) of POSIX over a list of bytes, in which a gap past the old end reads as
 -- zeros. An empty write past the end lengthens this list, which pwrite(2) doesn't do; no hash block is empty.
-use Rattle.std.specs.Prelude.{◌≡◌, ◌⊎◌, ℕ, ◌+◌, ◌-◌, ◌^◌, ◌<◌, ◌≤◌, max, List, ◌++◌, length, take, drop, replicate}
-use Rattle.std.specs.Prelude.{slice_index}
+use Rattle.std.specs.Prelude.{◌≡◌, ◌⊎◌, ℕ, ◌+◌, ◌-◌, ◌^◌, ◌<◌, ◌≤◌, max, List, ◌++◌, length, take, drop, replicate, slice_index}
 
 -- the most bytes of a device: the largest offset of a file (`off_t` of POSIX's <sys/types.h>, of 64 bits)
 abbrev pub most_bytes : ℕ

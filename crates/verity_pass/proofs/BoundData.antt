@@ -1,32 +1,16 @@
 -- Trees with one root hash stand above the same data, or show a collision.
-use Rattle.std.proofs.Common.{◌≡◌, ◌≢◌, ℕ, zero, suc, ◌+◌, ◌*◌, ◌/◌, ◌%◌, ◌<◌, ◌≤◌, ◌⊎◌}
-use Rattle.std.proofs.Common.{List, [], get_or, take, drop, length, arith, sym, ◌∙◌, ap, refl, inl, inr}
-use Rattle.std.proofs.Common.{length-append}
-use Rattle.std.proofs.Common.{below_more}
-use Rattle.std.proofs.lemmas.List.{append_cancel_left, append_cancel_right, drop_at, ext_get_or}
-use Rattle.std.proofs.lemmas.List.{length-take-le, take_at}
-use Rattle.std.proofs.lemmas.Grind.{common_steps}
-use Rattle.std.proofs.lemmas.List.FromFn.{get_or-map-range_with_len}
-use Rattle.std.proofs.lemmas.Nat.{div-add-mod', div_below, mod_below}
-use Rattle.std.specs.Int.{div_ceil, next_multiple_of}
-use Rattle.verity_hash.specs.Hashing.{input_block_of, salted_input, with_zeros}
-use Rattle.verity_hash.specs.declared.algorithm.Algorithm.{Algorithm}
-use Rattle.verity_hash.specs.declared.salting.SaltRule.{SaltRule}
-use Rattle.verity_hash.specs.declared.salting.SaltRule.TheVariants.{Before, After, PaddedBefore}
-use Rattle.verity_plan.specs.Plans.{IsPlan, PlanFields, level_count}
-use Rattle.verity_plan.specs.PlanCounts.{level_count_of}
-use Rattle.verity_plan.specs.Settings.{TreeSettingsFields, fan, hash}
-use Rattle.verity_plan.proofs.CountLemmas.{le-div_ceil}
-use Rattle.verity_plan.proofs.FanLemmas.{fan-two, some_data}
-use Rattle.verity_plan.proofs.PlanLemmas.{blocks-some}
-use Rattle.verity_pass.specs.Collisions.{Collide, TreesCollide, hashed_last, with_salt}
-use Rattle.verity_blocks.specs.Levels.{block_at, cut, data_blocks, root}
-use Rattle.verity_pass.specs.Links.{block_size_up}
-use Rattle.verity_pass.specs.Paths.{true_chain}
+use Rattle.std.proofs.Common.{◌≡◌, ◌≢◌, ℕ, zero, suc, ◌+◌, ◌*◌, ◌/◌, ◌%◌, ◌<◌, ◌≤◌, ◌⊎◌, List, [], get_or, take, drop, length, arith, sym}
+use Rattle.std.{proofs.Common.{◌∙◌, ap, refl, inl, inr, length-append, below_more}, specs.Int.{div_ceil, next_multiple_of}}
+use Rattle.std.proofs.lemmas.List.{append_cancel_left, append_cancel_right, drop_at, ext_get_or, length-take-le, take_at}
+use Rattle.std.proofs.lemmas.{List.FromFn.get_or-map-range_with_len, Grind.common_steps, Nat.{div-add-mod', div_below, mod_below}}
+use Rattle.verity_hash.specs.{Hashing.{input_block_of, salted_input, with_zeros}, declared.algorithm.Algorithm.Algorithm}
+use Rattle.verity_hash.specs.declared.salting.SaltRule.{SaltRule, TheVariants.{Before, After, PaddedBefore}}
+use Rattle.verity_plan.specs.{Plans.{IsPlan, PlanFields, level_count}, PlanCounts.level_count_of, Settings.{TreeSettingsFields, fan, hash}}
+use Rattle.verity_plan.proofs.{CountLemmas.le-div_ceil, FanLemmas.{fan-two, some_data}, PlanLemmas.blocks-some}
+use Rattle.verity_pass.specs.{Collisions.{Collide, TreesCollide, hashed_last, with_salt}, Links.block_size_up, Paths.true_chain}
 use Rattle.verity_pass.proofs.Paths.TrueChain.{length-data, length-true_block, true_chain-root, true_chain-top, true_chain-up}
-use Rattle.verity_blocks.proofs.Levels.CutBlocks.{length-cut}
-use Rattle.verity_pass.proofs.Paths.AcceptedLinks.{length-at_level}
-use Rattle.verity_pass.proofs.PathSteps.{chains-meet, same_or_two}
+use Rattle.verity_pass.proofs.{Paths.AcceptedLinks.length-at_level, PathSteps.{chains-meet, same_or_two}}
+use Rattle.verity_blocks.{specs.Levels.{block_at, cut, data_blocks, root}, proofs.Levels.CutBlocks.length-cut}
 
 -- what is hashed for a block says the block
 salted_input-block : (algorithm : Algorithm) (rule : SaltRule) (salt x y : List ℕ)

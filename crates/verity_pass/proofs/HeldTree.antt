@@ -1,24 +1,12 @@
 -- A device that holds the whole tree, and the verdict on it.
-use Rattle.std.proofs.Common.{◌≡◌, ℕ, ◌/◌, ◌<◌, ◌≤◌, Bool, false, List, [], ◌∷◌, length}
-use Rattle.std.proofs.Common.{arith, sym, ◌∙◌, ap, refl, inl, inr, Ok}
-use Rattle.std.proofs.lemmas.Bool.{cases_Bool, not-false}
-use Rattle.std.proofs.lemmas.Bool.Decides.{nat_tests}
-use Rattle.std.proofs.lemmas.List.Elements.{All-cons, All-nil}
-use Rattle.std.proofs.lemmas.Nat.{div-add-mod'}
-use Rattle.std.proofs.lemmas.Slice.Eq.{bytes_eq-Decides}
-use Rattle.std.specs.Prelude.{find, Some, None, Option}
-use Rattle.verity_plan.specs.Plans.{PlanFields, IsPlan}
-use Rattle.verity_plan.specs.Settings.{fan}
-use Rattle.verity_plan.proofs.CountLemmas.{le-div_ceil}
-use Rattle.verity_plan.proofs.FanLemmas.{fan-some, some_data}
-use Rattle.verity_blocks.specs.ClosingOrder.{BlockIndex, block_index, closed_after, times}
-use Rattle.verity_blocks.specs.TreeOnDevice.{HoldsTree}
-use Rattle.verity_blocks.specs.Levels.{root, data_blocks, whole_blocks}
-use Rattle.verity_pass.specs.Verdicts.{NoneDiffers, HoldsBlockAt, differs, verdict_by, verdict}
-use Rattle.verity_blocks.proofs.Levels.DataBlocks.{whole_blocks-all}
-use Rattle.verity_pass.proofs.Passes.ComparedPass.{judges-right}
-use Rattle.verity_blocks.proofs.Order.ClosesOnce.{ClosesOnce-all}
-use Rattle.verity_blocks.proofs.Order.TimesCounted.{times-more, times-cases, times-first}
+use Rattle.std.proofs.Common.{◌≡◌, ℕ, ◌/◌, ◌<◌, ◌≤◌, Bool, false, List, [], ◌∷◌, length, arith, sym, ◌∙◌, ap, refl, inl, inr, Ok}
+use Rattle.std.proofs.lemmas.{Bool.{cases_Bool, not-false, Decides.nat_tests}, List.Elements.{All-cons, All-nil}, Nat.div-add-mod'}
+use Rattle.std.{proofs.lemmas.Slice.Eq.bytes_eq-Decides, specs.Prelude.{find, Some, None, Option}}
+use Rattle.verity_plan.{specs.{Plans.{PlanFields, IsPlan}, Settings.fan}, proofs.{CountLemmas.le-div_ceil, FanLemmas.{fan-some, some_data}}}
+use Rattle.verity_blocks.specs.{ClosingOrder.{BlockIndex, block_index, closed_after, times}, TreeOnDevice.HoldsTree}
+use Rattle.verity_blocks.{specs.Levels.{root, data_blocks, whole_blocks}, proofs.Levels.DataBlocks.whole_blocks-all}
+use Rattle.verity_blocks.proofs.Order.{ClosesOnce.ClosesOnce-all, TimesCounted.{times-more, times-cases, times-first}}
+use Rattle.verity_pass.{specs.Verdicts.{NoneDiffers, HoldsBlockAt, differs, verdict_by, verdict}, proofs.Passes.ComparedPass.judges-right}
 
 -- a block that is counted among blocks of which none passes a test doesn't pass it
 times-none : (test : BlockIndex → Bool) (l j : ℕ) (hash_blocks : List BlockIndex) → find test hash_blocks ≡ None

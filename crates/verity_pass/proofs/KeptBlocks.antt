@@ -1,16 +1,9 @@
 -- Blocks that a reader keeps are the tree's, or a collision.
 use Rattle.std.proofs.Common.{◌≡◌, ℕ, zero, suc, ◌+◌, ◌/◌, ◌^◌, ◌<◌, ◌⊎◌, List, arith, sym, subst, ◌∙◌, ap, inl, inr}
-use Rattle.std.proofs.lemmas.Bool.{cases_lt}
-use Rattle.std.specs.Prelude.{Ok}
-use Rattle.verity_plan.specs.Plans.{PlanFields, IsPlan}
-use Rattle.verity_plan.specs.Settings.{fan}
-use Rattle.verity_pass.specs.KeptBlocks.{AreAccepted, AreTrueOrCollide, CheckedBlock, IsAcceptedAsTop}
-use Rattle.verity_pass.specs.KeptBlocks.{IsAcceptedUnder, true_block}
-use Rattle.verity_blocks.specs.Levels.{data_blocks, root}
-use Rattle.verity_pass.specs.Links.{IsCollision, checked_link}
-use Rattle.verity_pass.specs.Paths.{true_chain}
-use Rattle.verity_blocks.specs.TreeOnDevice.{tree_block}
-use Rattle.verity_pass.proofs.Paths.AcceptedLinks.{link-true, top-true}
+use Rattle.{std.{proofs.lemmas.Bool.cases_lt, specs.Prelude.Ok}, verity_plan.specs.{Plans.{PlanFields, IsPlan}, Settings.fan}}
+use Rattle.verity_pass.specs.KeptBlocks.{AreAccepted, AreTrueOrCollide, CheckedBlock, IsAcceptedAsTop, IsAcceptedUnder, true_block}
+use Rattle.verity_pass.{specs.{Links.{IsCollision, checked_link}, Paths.true_chain}, proofs.Paths.AcceptedLinks.{link-true, top-true}}
+use Rattle.verity_blocks.specs.{Levels.{data_blocks, root}, TreeOnDevice.tree_block}
 
 -- a checked block is the tree's, or collides with it
 abbrev IsTrueOrCollides : PlanFields → List ℕ → CheckedBlock → Type 0

@@ -1,19 +1,11 @@
 -- The root hash: it is the same from one level up; that of a file; and how long it is.
-use Rattle.std.proofs.Common.{◌≡◌, ℕ, zero, suc, ◌-◌, inl, inr, ◌^◌, ◌<◌, ◌≤◌, List, [], length, map, get_or, arith, ◌∙◌, ap}
-use Rattle.std.proofs.Common.{Bool, false, refl, replicate, true}
-use Rattle.std.proofs.lemmas.Bool.{cases_lt}
-use Rattle.std.proofs.lemmas.List.{length-map, get_or-map, length-replicate}
-use Rattle.std.proofs.Math.Nat.{pow-zero, pow-suc, one-le-pow}
-use Rattle.std.specs.Prelude.{if◌then◌else◌, ◌==◌}
-use Rattle.std.specs.Int.{div_ceil}
-use Rattle.verity_plan.specs.Plans.{level_count, plan_of_file}
-use Rattle.verity_plan.specs.Settings.{TreeSettingsFields, hash, fan, digest_len}
-use Rattle.verity_blocks.specs.Levels.{pack, blocks_up, root, data_blocks, root_of_file}
-use Rattle.verity_blocks.specs.Steps.PlainRoots.{digests_up, root_of_digests}
-use Rattle.verity_plan.proofs.CountLemmas.{IsLevelCount-level_count, IsLevelCount-same, div_ceil-pos, le-div_ceil}
-use Rattle.verity_plan.proofs.CountLemmas.{mul-lt_div_ceil}
-use Rattle.verity_blocks.proofs.OpenBlocks.OpenBlock.{length-hash}
-use Rattle.verity_blocks.proofs.Levels.LevelCounts.{length-pack, length-blocks_up, height-level_count}
+use Rattle.std.proofs.Common.{◌≡◌, ℕ, zero, suc, ◌-◌, inl, inr, ◌^◌, ◌<◌, ◌≤◌, List, [], length, map, get_or, arith, ◌∙◌, ap, Bool, false}
+use Rattle.std.proofs.{Common.{refl, replicate, true}, lemmas.{Bool.cases_lt, List.{length-map, get_or-map, length-replicate}}}
+use Rattle.std.{proofs.Math.Nat.{pow-zero, pow-suc, one-le-pow}, specs.{Prelude.{if◌then◌else◌, ◌==◌}, Int.div_ceil}}
+use Rattle.verity_plan.specs.{Plans.{level_count, plan_of_file}, Settings.{TreeSettingsFields, hash, fan, digest_len}}
+use Rattle.verity_plan.proofs.CountLemmas.{IsLevelCount-level_count, IsLevelCount-same, div_ceil-pos, le-div_ceil, mul-lt_div_ceil}
+use Rattle.verity_blocks.specs.{Levels.{pack, blocks_up, root, data_blocks, root_of_file}, Steps.PlainRoots.{digests_up, root_of_digests}}
+use Rattle.verity_blocks.proofs.{OpenBlocks.OpenBlock.length-hash, Levels.LevelCounts.{length-pack, length-blocks_up, height-level_count}}
 
 -- one level more than above one level up
 pub level_count-suc : (fan n : ℕ) → 2 ≤ fan → 1 < n → level_count fan n ≡ suc (level_count fan (div_ceil n fan))

@@ -1,12 +1,7 @@
 -- Slots one after another.
-use Rattle.std.proofs.Common.{◌≡◌, ℕ, ◌-◌, ◌≤◌, List, ◌++◌, take, length, replicate, arith}
-use Rattle.std.proofs.Common.{◌+◌, ◌<◌, get_or}
-use Rattle.std.proofs.lemmas.Grind.{common_steps}
-use Rattle.std.proofs.lemmas.List.{take-replicate}
-use Rattle.std.specs.List.{flat_map}
-use Rattle.verity_blocks.specs.Levels.{hash_block_of}
-use Rattle.verity_plan.specs.Settings.{TreeSettingsFields, slot, slot_width}
-use Rattle.verity_hash.specs.Hashing.{with_zeros}
+use Rattle.std.proofs.{Common.{◌≡◌, ℕ, ◌-◌, ◌≤◌, List, ◌++◌, take, length, replicate, arith, ◌+◌, ◌<◌, get_or}, lemmas.Grind.common_steps}
+use Rattle.{std.{proofs.lemmas.List.take-replicate, specs.List.flat_map}, verity_blocks.specs.Levels.hash_block_of}
+use Rattle.{verity_plan.specs.Settings.{TreeSettingsFields, slot, slot_width}, verity_hash.specs.Hashing.with_zeros}
 
 -- a digest and zeros added to some bytes are its slot added
 pub slot_pushed : (before bytes digest first second : List ℕ) (rest width : ℕ)

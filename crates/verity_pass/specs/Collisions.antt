@@ -1,12 +1,8 @@
 -- A collision of a hash function, and where two trees show one: for the laws of what a root hash binds.
 use Rattle.std.specs.Prelude.{◌≡◌, ◌≢◌, ◌<◌, ◌≤◌, ℕ, List, length}
-use Rattle.verity_hash.specs.Hashing.{hash_of, salted_input}
-use Rattle.verity_hash.specs.declared.algorithm.Algorithm.{Algorithm}
-use Rattle.verity_plan.specs.Plans.{PlanFields, level_count}
-use Rattle.verity_plan.specs.PlanCounts.{level_count_of}
-use Rattle.verity_plan.specs.Settings.{TreeSettingsFields, fan}
+use Rattle.{verity_hash.specs.{Hashing.{hash_of, salted_input}, declared.algorithm.Algorithm.Algorithm}, verity_pass.specs.Paths.true_chain}
+use Rattle.verity_plan.specs.{Plans.{PlanFields, level_count}, PlanCounts.level_count_of, Settings.{TreeSettingsFields, fan}}
 use Rattle.verity_blocks.specs.Levels.{data_blocks}
-use Rattle.verity_pass.specs.Paths.{true_chain}
 
 -- two different messages with one hash
 pub record Collide (algorithm : Algorithm) (x y : List ℕ) : Type 0 where

@@ -1,16 +1,10 @@
 -- What a comparison of a stored tree answers, and how much of the source it reads.
 use Rattle.std.specs.Prelude.{◌≡◌, ℕ, List, Option, Some, None, Result, Ok, Err}
-use Rattle.verity_io.specs.Counting.{Side, TheSource, TheDevice}
-use Rattle.verity_io.specs.Reading.{HasRead}
-use Rattle.verity_plan.specs.Plans.{PlanFields}
-use Rattle.verity_plan.specs.Settings.{fan}
-use Rattle.verity_blocks.specs.ClosingOrder.{BlockIndex, block_index, ComesNext, closed_after}
-use Rattle.verity_blocks.specs.Levels.{data_blocks}
-use Rattle.verity_pass.specs.Reading.{EndsWithin, FailsWithin, ReadsUpTo}
-use Rattle.verity_pass.specs.Verdicts.{NoneDiffers, verdict}
+use Rattle.{verity_io.specs.{Counting.{Side, TheSource, TheDevice}, Reading.HasRead}, verity_plan.specs.{Plans.PlanFields, Settings.fan}}
+use Rattle.verity_blocks.specs.{ClosingOrder.{BlockIndex, block_index, ComesNext, closed_after}, Levels.data_blocks}
+use Rattle.verity_pass.specs.{Reading.{EndsWithin, FailsWithin, ReadsUpTo}, Verdicts.{NoneDiffers, verdict}}
 use Rattle.verity_pass.specs.declared.comparing.CompareFault.{CompareFault}
-use Rattle.verity_pass.specs.declared.comparing.CompareFault.TheVariants.{SourceShort, SourceFailed, DeviceFailed}
-use Rattle.verity_pass.specs.declared.comparing.CompareFault.TheVariants.{Differs, RootDiffers}
+use Rattle.verity_pass.specs.declared.comparing.CompareFault.TheVariants.{SourceShort, SourceFailed, DeviceFailed, Differs, RootDiffers}
 
 -- no block before this one in closing order differs
 pub record ComesTo (p : PlanFields) (device bytes : List ℕ) (block : BlockIndex) : Type 0 where

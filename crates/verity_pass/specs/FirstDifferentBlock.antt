@@ -1,11 +1,7 @@
 -- Which data block is the first in which two pieces of data differ, and the fault that names it.
 use Rattle.std.specs.Prelude.{◌≡◌, ◌≢◌, ◌<◌, ℕ, ◌/◌, List, [], slice_index_or}
-use Rattle.verity_plan.specs.Plans.{PlanFields}
-use Rattle.verity_plan.specs.Settings.{fan}
-use Rattle.verity_blocks.specs.Levels.{data_blocks}
-use Rattle.verity_pass.specs.declared.comparing.CompareFault.{CompareFault}
-use Rattle.verity_pass.specs.declared.comparing.CompareFault.TheVariants.{Differs}
-use Rattle.verity_pass.specs.declared.part.Part.TheVariants.{Child}
+use Rattle.{verity_plan.specs.{Plans.PlanFields, Settings.fan}, verity_blocks.specs.Levels.data_blocks}
+use Rattle.verity_pass.specs.declared.{comparing.CompareFault.{CompareFault, TheVariants.Differs}, part.Part.TheVariants.Child}
 
 -- data block i is the first in which two pieces of data differ
 pub record IsFirstDifferent (p : PlanFields) (x y : List ℕ) (i : ℕ) : Type 0 where

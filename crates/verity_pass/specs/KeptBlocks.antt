@@ -2,12 +2,8 @@
 -- dm-verity page, "Hash Tree": each digest leads to the block above; fs-verity page, "Merkle tree"). Which are forgotten
 -- and read again in between doesn't matter: each reading is a block of its own.
 use Rattle.std.specs.Prelude.{◌≡◌, ◌⊎◌, ◌<◌, ℕ, ◌+◌, ◌/◌, ◌^◌, List, Ok}
-use Rattle.verity_plan.specs.Plans.{PlanFields}
-use Rattle.verity_plan.specs.PlanCounts.{level_count_of}
-use Rattle.verity_plan.specs.Settings.{fan}
-use Rattle.verity_blocks.specs.Levels.{data_blocks}
-use Rattle.verity_pass.specs.Links.{IsCollision, checked_link, checked_top}
-use Rattle.verity_pass.specs.Paths.{true_chain}
+use Rattle.{verity_plan.specs.{Plans.PlanFields, PlanCounts.level_count_of, Settings.fan}, verity_blocks.specs.Levels.data_blocks}
+use Rattle.verity_pass.specs.{Links.{IsCollision, checked_link, checked_top}, Paths.true_chain}
 
 -- a block that was checked, and the place that it was checked for: so many levels above a data block, or, with none,
 -- that data block's own

@@ -1,16 +1,10 @@
 -- A block checked by the one hash block above it, and the top block by the root hash, for whoever keeps hash blocks that
 -- are trusted already (Linux kernel, dm-verity page, "Hash Tree": each digest leads to the block above; fs-verity page,
 -- "Merkle tree").
-use Rattle.std.specs.Prelude.{◌≡◌, ◌≢◌, ◌<◌, ℕ, suc, ◌/◌, ◌%◌, ◌^◌, ◌&&◌, ◌==◌, List, length, nat_le, not}
-use Rattle.std.specs.Prelude.{if◌then◌else◌, Result, Ok, Err}
-use Rattle.std.specs.List.{flat_map, range_with_len}
-use Rattle.std.specs.Str.{bytes_eq}
-use Rattle.verity_plan.specs.Plans.{PlanFields}
-use Rattle.verity_plan.specs.PlanCounts.{level_count_of}
-use Rattle.verity_plan.specs.Settings.{TreeSettingsFields, fan, hash}
-use Rattle.verity_pass.specs.Verdicts.{digest_in}
-use Rattle.verity_pass.specs.declared.link.LinkFault.{LinkFault}
-use Rattle.verity_pass.specs.declared.link.LinkFault.TheVariants.{Index, Level, Length, Differs}
+use Rattle.std.specs.Prelude.{◌≡◌, ◌≢◌, ◌<◌, ℕ, suc, ◌/◌, ◌%◌, ◌^◌, ◌&&◌, ◌==◌, List, length, nat_le, not, if◌then◌else◌, Result, Ok, Err}
+use Rattle.std.specs.{List.{flat_map, range_with_len}, Str.bytes_eq}
+use Rattle.verity_plan.specs.{Plans.PlanFields, PlanCounts.level_count_of, Settings.{TreeSettingsFields, fan, hash}}
+use Rattle.verity_pass.specs.{Verdicts.digest_in, declared.link.LinkFault.{LinkFault, TheVariants.{Index, Level, Length, Differs}}}
 
 -- the length of a block that stands so many levels above the data: of a data block, or of a hash block
 abbrev pub block_size_up : TreeSettingsFields → ℕ → ℕ

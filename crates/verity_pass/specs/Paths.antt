@@ -1,16 +1,10 @@
 -- A data block checked by its path: the hash blocks above it, joined, level 0 next to the data (Linux kernel, dm-verity
 -- page, "Hash Tree": each digest leads to the block above; fs-verity page, "Merkle tree").
-use Rattle.std.specs.Prelude.{◌≡◌, ◌≢◌, ◌<◌, ◌≤◌, ℕ, zero, suc, ◌+◌, ◌*◌, ◌/◌, ◌%◌, ◌^◌, List, [], length, nat_lt}
-use Rattle.std.specs.Prelude.{slice_index_or, if◌then◌else◌, Result, Ok, Err}
-use Rattle.std.specs.Fork.{slice_chunk}
-use Rattle.std.specs.List.{flat_map, range_with_len}
-use Rattle.verity_blocks.specs.TreeOnDevice.{tree_block}
-use Rattle.verity_plan.specs.Plans.{PlanFields}
-use Rattle.verity_plan.specs.PlanCounts.{level_count_of}
-use Rattle.verity_plan.specs.Settings.{TreeSettingsFields, fan, hash}
-use Rattle.verity_pass.specs.Verdicts.{digest_in}
-use Rattle.verity_pass.specs.declared.path.PathFault.{PathFault}
-use Rattle.verity_pass.specs.declared.path.PathFault.TheVariants.{Index, Length, DiffersAt}
+use Rattle.std.specs.Prelude.{◌≡◌, ◌≢◌, ◌<◌, ◌≤◌, ℕ, zero, suc, ◌+◌, ◌*◌, ◌/◌, ◌%◌, ◌^◌, List, [], length, nat_lt, slice_index_or}
+use Rattle.std.specs.Prelude.{if◌then◌else◌, Result, Ok, Err}
+use Rattle.{std.specs.{Fork.slice_chunk, List.{flat_map, range_with_len}}, verity_blocks.specs.TreeOnDevice.tree_block}
+use Rattle.verity_plan.specs.{Plans.PlanFields, PlanCounts.level_count_of, Settings.{TreeSettingsFields, fan, hash}}
+use Rattle.verity_pass.specs.{Verdicts.digest_in, declared.path.PathFault.{PathFault, TheVariants.{Index, Length, DiffersAt}}}
 
 -- the chain: the data block, and above it the blocks of the path
 abbrev pub chain : TreeSettingsFields → List ℕ → List ℕ → ℕ → List ℕ

@@ -1,10 +1,7 @@
 -- How much of a source a pass over the data reads: data blocks from the first on, each once.
 use Rattle.std.specs.Prelude.{◌≡◌, ℕ, ◌+◌, ◌*◌, ◌<◌, ◌≤◌, min, List, [], length, Contains}
-use Rattle.verity_io.specs.Reading.{HasRead}
-use Rattle.verity_plan.specs.Plans.{PlanFields}
-use Rattle.verity_plan.specs.Settings.{fan}
-use Rattle.verity_blocks.specs.ClosingOrder.{block_index, closing_with}
-use Rattle.verity_blocks.specs.Levels.{whole_blocks}
+use Rattle.{verity_io.specs.Reading.HasRead, verity_plan.specs.{Plans.PlanFields, Settings.fan}}
+use Rattle.verity_blocks.specs.{ClosingOrder.{block_index, closing_with}, Levels.whole_blocks}
 
 -- the bytes of i data blocks, or all that are wanted
 abbrev pub bytes_of : PlanFields → ℕ → ℕ

@@ -1,7 +1,6 @@
 -- Examples of docs/DEFINITIONS.md, computed: fan-outs, widths of slots, numbers of levels, an end and a place.
 use Rattle.std.proofs.Common.{◌≡◌, refl}
-use Rattle.verity_plan.specs.Settings.{least_from, log2, slot_count, least_power}
-use Rattle.verity_plan.specs.Plans.{level_count, place, end_place}
+use Rattle.verity_plan.specs.{Settings.{least_from, log2, slot_count, least_power}, Plans.{level_count, place, end_place}}
 
 fan_512 : slot_count 32 512 ≡ 16
 unfolding least_from log2 slot_count

@@ -1,13 +1,7 @@
 -- The number of the block that stands some levels above a data block.
-use Rattle.std.proofs.Common.{◌≡◌, ℕ, suc, ◌+◌, ◌/◌, ◌^◌, ◌<◌, arith, sym, ◌∙◌, ap, inl, inr}
-use Rattle.std.proofs.lemmas.Bool.{cases_lt}
-use Rattle.std.proofs.lemmas.Nat.{div-add-mod'}
-use Rattle.std.proofs.Math.Nat.{div-div-eq-div-mul, one-le-pow, pow-suc}
-use Rattle.std.specs.Int.{div_ceil}
-use Rattle.verity_plan.specs.Plans.{HasBlock, PlanFields}
-use Rattle.verity_plan.specs.PlanCounts.{level_count_of}
-use Rattle.verity_plan.specs.Settings.{fan}
-use Rattle.verity_plan.proofs.CountLemmas.{le-div_ceil}
+use Rattle.std.proofs.{Common.{◌≡◌, ℕ, suc, ◌+◌, ◌/◌, ◌^◌, ◌<◌, arith, sym, ◌∙◌, ap, inl, inr}, lemmas.{Bool.cases_lt, Nat.div-add-mod'}}
+use Rattle.std.{proofs.Math.Nat.{div-div-eq-div-mul, one-le-pow, pow-suc}, specs.Int.div_ceil}
+use Rattle.verity_plan.{specs.{Plans.{HasBlock, PlanFields}, PlanCounts.level_count_of, Settings.fan}, proofs.CountLemmas.le-div_ceil}
 
 -- one level up an index is divided by the fan
 pub quotient-next : (f i m : ℕ) → i / f ^ (m + 1) ≡ i / f ^ m / f

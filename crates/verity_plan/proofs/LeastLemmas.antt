@@ -1,8 +1,6 @@
 -- The least number that passes a test.
-use Rattle.std.proofs.Common.{◌≡◌, ℕ, zero, suc, ◌+◌, ◌<◌, ◌≤◌, Bool, true, false, arith, sym, ◌∙◌, ap, subst, refl}
-use Rattle.std.proofs.Common.{inl, inr}
-use Rattle.std.proofs.lemmas.Bool.{cases_lt, cases_eq}
-use Rattle.verity_plan.specs.Settings.{least_from}
+use Rattle.std.proofs.Common.{◌≡◌, ℕ, zero, suc, ◌+◌, ◌<◌, ◌≤◌, Bool, true, false, arith, sym, ◌∙◌, ap, subst, refl, inl, inr}
+use Rattle.{std.proofs.lemmas.Bool.{cases_lt, cases_eq}, verity_plan.specs.Settings.least_from}
 
 -- x passes, it is at least l, and nothing from l to it passes
 pub record IsLeast (passes : ℕ → Bool) (l x : ℕ) : Type 0 where

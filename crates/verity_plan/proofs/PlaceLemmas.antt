@@ -1,11 +1,7 @@
 -- The places of the hash blocks.
-use Rattle.std.proofs.Common.{◌≡◌, ℕ, zero, suc, ◌+◌, ◌-◌, ◌*◌, ◌^◌, ◌<◌, ◌≤◌, arith, sym, ◌∙◌, ap, inl, inr}
-use Rattle.std.proofs.Math.Nat.{mul-le-mul_left, one-le-pow}
-use Rattle.std.proofs.lemmas.List.Sums.{sum_by-cons}
-use Rattle.std.proofs.lemmas.Bool.{cases_lt, cases_order}
-use Rattle.std.specs.List.{range_with_len}
-use Rattle.verity_plan.specs.Plans.{level_count, level_size, blocks_from, IsTreeBlock, place}
-use Rattle.verity_plan.specs.PlanLaws.{PlacesAreOnce}
+use Rattle.std.{proofs.Common.{◌≡◌, ℕ, zero, suc, ◌+◌, ◌-◌, ◌*◌, ◌^◌, ◌<◌, ◌≤◌, arith, sym, ◌∙◌, ap, inl, inr}, specs.List.range_with_len}
+use Rattle.std.proofs.{Math.Nat.{mul-le-mul_left, one-le-pow}, lemmas.{List.Sums.sum_by-cons, Bool.{cases_lt, cases_order}}}
+use Rattle.verity_plan.specs.{Plans.{level_count, level_size, blocks_from, IsTreeBlock, place}, PlanLaws.PlacesAreOnce}
 use Rattle.verity_plan.proofs.CountLemmas.{div_ceil-fewer, div_ceil-le}
 
 -- the blocks of one level more

@@ -1,10 +1,8 @@
 -- What is counted of a plan, as the calls of `Plan` answer it: its levels, their blocks and places, and the bytes of a
 -- store. It stands apart from Plans.antt, since neither a plan's limits nor the bytes of a device are defined by it.
 use Rattle.std.specs.Prelude.{ℕ, ◌+◌, ◌^◌, ◌*◌, ◌/◌}
-use Rattle.std.specs.Int.{div_ceil}
-use Rattle.verity_plan.specs.Settings.{TreeSettingsFields, fan}
-use Rattle.verity_io.specs.Writing.{most_bytes}
-use Rattle.verity_plan.specs.Plans.{level_count, level_size, place, PlanFields}
+use Rattle.{std.specs.Int.div_ceil, verity_io.specs.Writing.most_bytes}
+use Rattle.verity_plan.specs.{Settings.{TreeSettingsFields, fan}, Plans.{level_count, level_size, place, PlanFields}}
 
 -- of a plan, the number of levels
 abbrev pub level_count_of : PlanFields → ℕ

@@ -1,9 +1,7 @@
 -- A plan's fields come back from its value: the number of levels and the end are computed once.
 -- For the private functions; not needed to read a public contract.
 use Rattle.std.proofs.Common.{◌≡◌, ℕ, sym, ap, ◌∙◌}
-use Rattle.verity_plan.specs.Plans.{PlanFields, IsPlan, end_place_of}
-use Rattle.verity_plan.specs.PlanCounts.{level_count_of}
-use Rattle.verity_plan.specs.declared.plan.Plan.TheInside.{Inside}
+use Rattle.verity_plan.specs.{Plans.{PlanFields, IsPlan, end_place_of}, PlanCounts.level_count_of, declared.plan.Plan.TheInside.Inside}
 
 -- what the fields say
 abbrev pub planned_of : Inside → PlanFields

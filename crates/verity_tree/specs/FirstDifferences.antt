@@ -1,12 +1,8 @@
 -- Which of some hash blocks closes first: so the first block of a tree that passes a test, such as that it differs, is
 -- found from the first of each part and of the join, which can be looked for apart from one another.
-use Rattle.std.specs.Prelude.{ℕ, ◌==◌, ◌&&◌, ◌||◌, Bool, List, [], ◌∷◌, map, find, nat_lt}
-use Rattle.std.specs.Prelude.{Option, Some, None, if◌then◌else◌}
-use Rattle.std.specs.List.{range_with_len}
-use Rattle.verity_plan.specs.Plans.{PlanFields}
-use Rattle.verity_plan.specs.PlanCounts.{count_under}
-use Rattle.verity_blocks.specs.ClosingOrder.{BlockIndex, closing_moment}
-use Rattle.verity_builders.specs.Parts.{join_order, part_order}
+use Rattle.std.specs.Prelude.{ℕ, ◌==◌, ◌&&◌, ◌||◌, Bool, List, [], ◌∷◌, map, find, nat_lt, Option, Some, None, if◌then◌else◌}
+use Rattle.{std.specs.List.range_with_len, verity_plan.specs.{Plans.PlanFields, PlanCounts.count_under}}
+use Rattle.{verity_blocks.specs.ClosingOrder.{BlockIndex, closing_moment}, verity_builders.specs.Parts.{join_order, part_order}}
 
 -- the first of two blocks closes before the other: after fewer data blocks, or after as many and on a lower level
 abbrev pub closes_before : ℕ → ℕ → BlockIndex → BlockIndex → Bool

@@ -1,42 +1,21 @@
 -- What a formatted device says is read back, and verify accepts it.
-use Rattle.std.proofs.Common.{◌≡◌, ◌≢◌, ℕ, ◌*◌, Bool, true, List, length}
-use Rattle.std.proofs.Common.{take, drop, map, Some, None, Result, Ok, Err, cond, arith, sym, subst}
-use Rattle.std.proofs.Common.{◌∙◌, ap, refl, inl, inr}
-use Rattle.std.proofs.lemmas.Bool.Decides.{nat_tests}
-use Rattle.std.proofs.lemmas.List.{length-take, length-take-le}
-use Rattle.std.specs.List.{range_with_len}
-use Rattle.std.specs.Prelude.{◌==◌, ◌⊎◌, IfErr, IsSome, is_some}
-use Rattle.std.specs.Result.{result_ok}
-use Rattle.hex.specs.Hex.{decode_of, encode_lower, lower_digits}
-use Rattle.hex.proofs.HexLemmas.{decode_of-encode_lower, length-encode_with}
-use Rattle.verity_hash.specs.Hashing.{digest_len_of}
-use Rattle.verity_hash.proofs.DigestBytes.{bytes-salted_hash}
-use Rattle.verity_hash.proofs.HashLemmas.{length-salted_hash}
-use Rattle.verity_plan.specs.Plans.{PlanFields, plan_at}
-use Rattle.verity_plan.specs.Settings.{TreeSettingsFields, hash}
-use Rattle.verity_format.specs.Superblocks.{IsSuperblock}
-use Rattle.verity_format.proofs.TextLemmas.{text_says}
-use Rattle.verity_blocks.specs.Levels.{block_at, cut, data_blocks, root}
-use Rattle.verity_blocks.specs.TreeOnDevice.{HoldsTree, tree_block}
-use Rattle.veritysetup.specs.Options.Settings.{SettingsFields, read_root}
-use Rattle.veritysetup.specs.Runs.Formatted.{IsFormattedDevice, root_above}
-use Rattle.veritysetup.specs.Runs.GivenBack.{IsGivenBack}
-use Rattle.veritysetup.specs.Runs.HashDevice.{superblock_at, superblock_for}
-use Rattle.veritysetup.specs.Runs.Verified.{Describes, IsVerified, Trusts}
-use Rattle.veritysetup.specs.declared.runs.verify_input.VerifyInput.{VerifyInput}
-use Rattle.veritysetup.specs.declared.runs.verify_input.VerifyInput.TheVariants.{Stored, Given}
-use Rattle.verity_pass.specs.Comparing.{Judges}
-use Rattle.verity_pass.specs.Verdicts.{verdict}
-use Rattle.verity_pass.specs.declared.comparing.CompareFault.{CompareFault}
+use Rattle.std.proofs.Common.{◌≡◌, ◌≢◌, ℕ, ◌*◌, Bool, true, List, length, take, drop, map, Some, None, Result, Ok, Err, cond, arith, sym}
+use Rattle.std.proofs.{Common.{subst, ◌∙◌, ap, refl, inl, inr}, lemmas.{Bool.Decides.nat_tests, List.{length-take, length-take-le}}}
+use Rattle.std.specs.{List.range_with_len, Prelude.{◌==◌, ◌⊎◌, IfErr, IsSome, is_some}, Result.result_ok}
+use Rattle.hex.{specs.Hex.{decode_of, encode_lower, lower_digits}, proofs.HexLemmas.{decode_of-encode_lower, length-encode_with}}
+use Rattle.verity_hash.{specs.Hashing.digest_len_of, proofs.{DigestBytes.bytes-salted_hash, HashLemmas.length-salted_hash}}
+use Rattle.{verity_plan.specs.{Plans.{PlanFields, plan_at}, Settings.{TreeSettingsFields, hash}}, verity_pass.proofs.HeldTree.holds-right}
+use Rattle.verity_format.{specs.Superblocks.IsSuperblock, proofs.TextLemmas.text_says}
+use Rattle.verity_blocks.specs.{Levels.{block_at, cut, data_blocks, root}, TreeOnDevice.{HoldsTree, tree_block}}
+use Rattle.veritysetup.specs.{Options.Settings.{SettingsFields, read_root}, Runs.Formatted.{IsFormattedDevice, root_above}}
+use Rattle.veritysetup.specs.Runs.{GivenBack.IsGivenBack, HashDevice.{superblock_at, superblock_for}}
+use Rattle.veritysetup.specs.Runs.{Verified.{Describes, IsVerified, Trusts}, Verify.{Compares, Verifies}}
+use Rattle.veritysetup.specs.declared.{runs.verify_input.VerifyInput.{VerifyInput, TheVariants.{Stored, Given}}, fault.Fault.Fault}
+use Rattle.veritysetup.specs.Faults.{compare_status, result_status, side_of, status_of, status_refused, status_verification_failed}
+use Rattle.veritysetup.proofs.{SettingsLemmas.{AreValid, plan-made, superblock-valid}, InputLemmas.{trusted-one, trusted-unrefused}}
+use Rattle.verity_pass.specs.{Comparing.Judges, Verdicts.verdict, declared.comparing.CompareFault.CompareFault}
 use Rattle.verity_pass.specs.declared.comparing.CompareFault.TheVariants as compare
-use Rattle.verity_pass.proofs.HeldTree.{holds-right}
-use Rattle.veritysetup.specs.Faults.{compare_status, result_status, side_of, status_of, status_refused}
-use Rattle.veritysetup.specs.Faults.{status_verification_failed}
-use Rattle.veritysetup.specs.Runs.Verify.{Compares, Verifies}
-use Rattle.veritysetup.specs.declared.fault.Fault.{Fault}
 use Rattle.veritysetup.specs.declared.fault.Fault.TheVariants as fault
-use Rattle.veritysetup.proofs.SettingsLemmas.{AreValid, plan-made, superblock-valid}
-use Rattle.veritysetup.proofs.InputLemmas.{trusted-one, trusted-unrefused}
 
 -- ---- the plan
 

@@ -1,13 +1,8 @@
 -- The plan that options choose is the one that was made.
-use Rattle.std.proofs.Common.{◌≡◌, ◌*◌, ◌&&◌, ℕ, nat_lt, ap, refl, Bool, true, false, cond, Option, Some, None, Result}
-use Rattle.std.proofs.Common.{Ok, Err}
-use Rattle.verity_plan.specs.Plans.{PlanFields, plan_from}
-use Rattle.verity_plan.specs.Settings.{TreeSettingsFields}
-use Rattle.verity_plan.proofs.PlanLemmas.{planned_is}
-use Rattle.verity_plan.specs.declared.plan_fault.PlanFault.{PlanFault}
-use Rattle.verity_plan.specs.declared.plan_fault.PlanFault.TheVariants.{NoData, TooLarge}
-use Rattle.veritysetup.specs.Options.Choices.{accepted_plan}
-use Rattle.veritysetup.specs.declared.options.option_fault.OptionFault.TheVariants.{Overlap}
+use Rattle.std.proofs.Common.{◌≡◌, ◌*◌, ◌&&◌, ℕ, nat_lt, ap, refl, Bool, true, false, cond, Option, Some, None, Result, Ok, Err}
+use Rattle.verity_plan.specs.{Plans.{PlanFields, plan_from}, Settings.TreeSettingsFields, declared.plan_fault.PlanFault.PlanFault}
+use Rattle.verity_plan.{specs.declared.plan_fault.PlanFault.TheVariants.{NoData, TooLarge}, proofs.PlanLemmas.planned_is}
+use Rattle.veritysetup.specs.{Options.Choices.accepted_plan, declared.options.option_fault.OptionFault.TheVariants.Overlap}
 
 -- the plan that whole data blocks have from this hash block on
 pub record IsPlanFrom (s : TreeSettingsFields) (count : ℕ) (from : Option ℕ) (q : PlanFields) : Type 0 where

@@ -1,24 +1,13 @@
 -- What verify goes by is one plan and one root hash, or one reason to refuse, and its plan can be carried out.
-use Rattle.std.proofs.Common.{◌≡◌, ℕ, true, List, Some, None}
-use Rattle.std.proofs.Common.{sym, subst, ◌∙◌, ap, refl}
-use Rattle.verity_format.specs.CheckedSuperblocks.{superblock_fault}
-use Rattle.verity_format.specs.Superblocks.{IsSuperblock, SuperblockFields}
-use Rattle.verity_format.specs.declared.super_fault.SuperFault.{SuperFault}
-use Rattle.verity_format.proofs.SuperblockLemmas.{one-superblock, says-fault_none}
-use Rattle.verity_plan.specs.Plans.{IsPlan, PlanFields, base_of, plan_at}
-use Rattle.verity_plan.proofs.PlanLemmas.{IsPlan-plan_from}
-use Rattle.veritysetup.specs.Faults.{side_of}
-use Rattle.veritysetup.specs.Options.Settings.{read_root}
-use Rattle.veritysetup.specs.Runs.GivenBack.{IsPlanIfGiven}
-use Rattle.veritysetup.specs.Runs.HashDevice.{superblock_at}
-use Rattle.veritysetup.specs.Runs.SameVerdicts.{HaveOneSuperblock}
-use Rattle.veritysetup.specs.Runs.Verified.{Trusts}
-use Rattle.veritysetup.specs.Runs.Verify.{Refuses}
-use Rattle.veritysetup.specs.declared.fault.Fault.{Fault}
+use Rattle.std.proofs.Common.{◌≡◌, ℕ, true, List, Some, None, sym, subst, ◌∙◌, ap, refl}
+use Rattle.verity_format.specs.{CheckedSuperblocks.superblock_fault, Superblocks.{IsSuperblock, SuperblockFields}}
+use Rattle.verity_format.{specs.declared.super_fault.SuperFault.SuperFault, proofs.SuperblockLemmas.{one-superblock, says-fault_none}}
+use Rattle.verity_plan.{specs.Plans.{IsPlan, PlanFields, base_of, plan_at}, proofs.PlanLemmas.IsPlan-plan_from}
+use Rattle.veritysetup.specs.{Faults.side_of, Options.Settings.read_root, Runs.{GivenBack.IsPlanIfGiven, HashDevice.superblock_at}}
+use Rattle.veritysetup.specs.{Runs.{SameVerdicts.HaveOneSuperblock, Verified.Trusts, Verify.Refuses}, declared.fault.Fault.Fault}
+use Rattle.veritysetup.specs.declared.runs.verify_input.VerifyInput.{VerifyInput, TheVariants.{Stored, Given}}
 use Rattle.veritysetup.specs.declared.fault.Fault.TheVariants as fault
 use Rattle.veritysetup.specs.declared.options.option_fault.OptionFault.TheVariants as option
-use Rattle.veritysetup.specs.declared.runs.verify_input.VerifyInput.{VerifyInput}
-use Rattle.veritysetup.specs.declared.runs.verify_input.VerifyInput.TheVariants.{Stored, Given}
 
 -- ---- what an input and a device give is one
 

@@ -1,12 +1,8 @@
 -- The texts of a line's options are those that its settings are chosen by.
-use Rattle.std.proofs.Common.{◌≡◌, Bool, List, Option, None, Some, map, refl, ℕ}
-use Rattle.std.specs.Borrow.{Bor}
+use Rattle.std.{proofs.Common.{◌≡◌, Bool, List, Option, None, Some, map, refl, ℕ}, specs.Borrow.Bor}
 use Rattle.std.specs.Prelude.{is_some, option_copied, option_map, string_bytes}
-use Rattle.veritysetup.specs.Options.OptionTexts.{option_texts}
-use Rattle.veritysetup.specs.Program.Steps.{line_texts}
-use Rattle.veritysetup.specs.Words.RawWords.{root_word}
-use Rattle.veritysetup.specs.declared.options.raw_options.RawOptions.{RawOptions}
-use Rattle.veritysetup.specs.declared.words.line.Line.{Line}
+use Rattle.veritysetup.specs.{Options.OptionTexts.option_texts, Program.Steps.line_texts, Words.RawWords.root_word}
+use Rattle.veritysetup.specs.declared.{options.raw_options.RawOptions.RawOptions, words.line.Line.Line}
 
 pub texts-same : (raw : RawOptions) (line : Line) (same_file : Bool)
     → option_copied raw.hash ≡ option_map string_bytes line.hash

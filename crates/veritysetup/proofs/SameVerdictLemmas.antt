@@ -1,41 +1,22 @@
 -- Devices and sources that are alike in what a verdict goes by have one verdict.
-use Rattle.std.proofs.Common.{◌≡◌, ℕ, ◌+◌, ◌-◌, ◌*◌, ◌<◌, ◌≤◌, ◌&&◌, not, cond, min, List, []}
-use Rattle.std.proofs.Common.{◌∷◌, ◌++◌, length, take, drop, Option, Some, None, Result, Ok, Err, arith, sym, subst}
-use Rattle.std.proofs.Common.{◌∙◌, ap, refl, inl, inr}
-use Rattle.std.proofs.lemmas.Bool.{cases_Bool, cases_lt}
-use Rattle.std.proofs.lemmas.Bool.Decides.{nat_tests}
-use Rattle.std.proofs.lemmas.List.{drop-drop, drop-take, length-take, take-take}
-use Rattle.std.proofs.lemmas.List.Elements.{All-cons, All-head, All-nil, All-tail}
-use Rattle.std.proofs.lemmas.List.Sums.{sum_by-append}
-use Rattle.std.specs.Result.{result_err}
-use Rattle.std.specs.Prelude.{◌==◌, IfErr, find, nat_lt}
-use Rattle.std.specs.Str.{bytes_eq}
-use Rattle.verity_io.specs.Reading.{HasRead}
-use Rattle.verity_plan.specs.Plans.{HasBlock, IsPlan, PlanFields, end_place_of, start_byte_of}
-use Rattle.verity_plan.specs.Settings.{fan}
-use Rattle.verity_plan.proofs.FanLemmas.{fan-some, some_data}
-use Rattle.verity_plan.proofs.IndexLemmas.{quotient-below}
-use Rattle.verity_blocks.specs.ClosingOrder.{BlockIndex, ComesNext, closed_after, times}
-use Rattle.verity_pass.specs.Comparing.{CompareReads, Judges}
-use Rattle.verity_blocks.specs.Levels.{data_blocks, root, whole_blocks}
-use Rattle.verity_pass.specs.Reading.{bytes_of}
-use Rattle.verity_blocks.specs.TreeOnDevice.{stored_block, tree_block}
+use Rattle.std.proofs.Common.{◌≡◌, ℕ, ◌+◌, ◌-◌, ◌*◌, ◌<◌, ◌≤◌, ◌&&◌, not, cond, min, List, [], ◌∷◌, ◌++◌, length, take, drop, Option, Some}
+use Rattle.std.proofs.{Common.{None, Result, Ok, Err, arith, sym, subst, ◌∙◌, ap, refl, inl, inr}, lemmas.Bool.{cases_Bool, cases_lt}}
+use Rattle.std.proofs.lemmas.{Bool.Decides.nat_tests, List.{drop-drop, drop-take, length-take, take-take}}
+use Rattle.std.{proofs.lemmas.List.{Elements.{All-cons, All-head, All-nil, All-tail}, Sums.sum_by-append}, specs.Result.result_err}
+use Rattle.{std.specs.{Prelude.{◌==◌, IfErr, find, nat_lt}, Str.bytes_eq}, verity_io.specs.Reading.HasRead}
+use Rattle.verity_plan.specs.{Plans.{HasBlock, IsPlan, PlanFields, end_place_of, start_byte_of}, Settings.fan}
+use Rattle.verity_plan.proofs.{FanLemmas.{fan-some, some_data}, IndexLemmas.quotient-below}
+use Rattle.verity_blocks.specs.{ClosingOrder.{BlockIndex, ComesNext, closed_after, times}, Levels.{data_blocks, root, whole_blocks}}
+use Rattle.verity_blocks.{specs.TreeOnDevice.{stored_block, tree_block}, proofs.Order.TimesCounted.{times-first, times-more}}
+use Rattle.{verity_blocks.proofs.Order.ClosesOnce.closed_time, verity_pass.specs.{Comparing.{CompareReads, Judges}, Reading.bytes_of}}
 use Rattle.verity_pass.specs.Verdicts.{HoldsBlockAt, NoneDiffers, difference, differs, part_of, verdict, verdict_by}
-use Rattle.verity_pass.specs.declared.comparing.CompareFault.{CompareFault}
+use Rattle.verity_pass.{specs.declared.comparing.CompareFault.CompareFault, proofs.BesideTree.block-within}
+use Rattle.veritysetup.specs.{Faults.side_of, Runs.{GivenBack.IsPlanIfGiven, SameVerdicts.{AreAlike, IsJudged, hash_area}}}
+use Rattle.veritysetup.specs.{Runs.Verify.{Compares, Refuses, Verifies}, declared.fault.Fault.Fault}
+use Rattle.veritysetup.{specs.declared.runs.verify_input.VerifyInput.VerifyInput, proofs.AcceptedLemmas.data_blocks-same}
+use Rattle.veritysetup.proofs.InputLemmas.{refused-one, refused-there, trusted-one, trusted-planned, trusted-there, trusted-unrefused}
 use Rattle.verity_pass.specs.declared.comparing.CompareFault.TheVariants as compare
-use Rattle.verity_pass.proofs.BesideTree.{block-within}
-use Rattle.verity_blocks.proofs.Order.TimesCounted.{times-first, times-more}
-use Rattle.verity_blocks.proofs.Order.ClosesOnce.{closed_time}
-use Rattle.veritysetup.specs.Faults.{side_of}
-use Rattle.veritysetup.specs.Runs.GivenBack.{IsPlanIfGiven}
-use Rattle.veritysetup.specs.Runs.SameVerdicts.{AreAlike, IsJudged, hash_area}
-use Rattle.veritysetup.specs.Runs.Verify.{Compares, Refuses, Verifies}
-use Rattle.veritysetup.specs.declared.fault.Fault.{Fault}
 use Rattle.veritysetup.specs.declared.fault.Fault.TheVariants as fault
-use Rattle.veritysetup.specs.declared.runs.verify_input.VerifyInput.{VerifyInput}
-use Rattle.veritysetup.proofs.AcceptedLemmas.{data_blocks-same}
-use Rattle.veritysetup.proofs.InputLemmas.{refused-one, refused-there, trusted-one, trusted-planned, trusted-there}
-use Rattle.veritysetup.proofs.InputLemmas.{trusted-unrefused}
 
 -- ---- devices with one hash area
 

@@ -1,14 +1,9 @@
 -- Valid settings: their superblock is valid and ends before the hash area, and their plan is made of their parts.
-use Rattle.std.proofs.Common.{◌≡◌, ℕ, ◌+◌, ◌*◌, ◌≤◌, Bool, true, false, length, Some, None, Ok, nat_le, cond, arith}
-use Rattle.std.proofs.Common.{sym, ◌∙◌, ap}
-use Rattle.std.specs.Int.{div_ceil}
-use Rattle.verity_io.specs.Writing.{most_bytes}
-use Rattle.verity_plan.specs.Plans.{IsPlan, PlanFields, base_of, checked_plan, plan_at, plan_from}
-use Rattle.verity_plan.proofs.CountLemmas.{le-div_ceil}
+use Rattle.std.proofs.Common.{◌≡◌, ℕ, ◌+◌, ◌*◌, ◌≤◌, Bool, true, false, length, Some, None, Ok, nat_le, cond, arith, sym, ◌∙◌, ap}
+use Rattle.{std.specs.Int.div_ceil, verity_io.specs.Writing.most_bytes, verity_format.specs.Superblocks.IsValidSuperblock}
+use Rattle.verity_plan.{specs.Plans.{IsPlan, PlanFields, base_of, checked_plan, plan_at, plan_from}, proofs.CountLemmas.le-div_ceil}
 use Rattle.verity_plan.proofs.PlanLemmas.{blocks-some, checked_plan-planned, some_hash}
-use Rattle.verity_format.specs.Superblocks.{IsValidSuperblock}
-use Rattle.veritysetup.specs.Options.Settings.{PartsAgree, SettingsFields}
-use Rattle.veritysetup.specs.Runs.HashDevice.{superblock_for}
+use Rattle.veritysetup.specs.{Options.Settings.{PartsAgree, SettingsFields}, Runs.HashDevice.superblock_for}
 
 -- what settings keep to: a plan that can be carried out, parts that agree, a UUID of 16 bytes
 pub record AreValid (s : SettingsFields) : Type 0 where

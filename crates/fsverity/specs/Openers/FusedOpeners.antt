@@ -1,7 +1,6 @@
 -- The parts of an opener each of whose sources fails one call; this project's own.
 use Rattle.std.specs.Prelude.{◌≡◌, ℕ}
-use Rattle.verity_io.specs.Fusing.{fused_call, fused_calls}
-use Rattle.verity_io.specs.declared.fused.Fused.{Fused}
+use Rattle.verity_io.specs.{Fusing.{fused_call, fused_calls}, declared.fused.Fused.Fused}
 use Rattle.fsverity.specs.declared.openers.fused_opener.FusedOpener.{FusedOpener}
 
 -- the inner opener

@@ -1,7 +1,6 @@
 -- Opening the files of a list one after another, as open(2) of POSIX opens one; this project's own.
 use Rattle.std.specs.Prelude.{◌≡◌, ◌↔◌, ◌⊎◌, ℕ, ◌+◌, ◌≤◌, List, Option, Some, None, length, slice_get, Result, MatchResult}
-use Rattle.verity_io.specs.declared.failed.Failed.{Failed}
-use Rattle.verity_io.specs.Counting.{CountRose}
+use Rattle.verity_io.specs.{declared.failed.Failed.Failed, Counting.CountRose}
 
 -- an opener before and after some calls: whether it tells its files; the files, each its bytes or absent; the index of
 -- the next file; and its count of failures

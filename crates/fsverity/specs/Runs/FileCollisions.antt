@@ -1,10 +1,7 @@
 -- What the digests of two files show if the files are not the same: for the law that a file digest binds its file.
 use Rattle.std.specs.Prelude.{◌⊎◌, ℕ, List, length}
-use Rattle.verity_format.specs.Descriptors.{DescriptorFields, descriptor_bytes}
-use Rattle.verity_plan.specs.Settings.{TreeSettingsFields}
-use Rattle.verity_pass.specs.Collisions.{Collide, TreesCollide}
-use Rattle.verity_blocks.specs.Levels.{data_blocks, root_of_file}
-use Rattle.verity_plan.specs.Plans.{plan_of_file}
+use Rattle.{verity_format.specs.Descriptors.{DescriptorFields, descriptor_bytes}, verity_pass.specs.Collisions.{Collide, TreesCollide}}
+use Rattle.{verity_plan.specs.{Settings.TreeSettingsFields, Plans.plan_of_file}, verity_blocks.specs.Levels.{data_blocks, root_of_file}}
 use Rattle.fsverity.specs.Runs.Digested.{descriptor_of}
 
 -- the descriptor of a whole file

@@ -1,11 +1,8 @@
 -- The steps of a run with output files.
 -- For the private functions; not needed to read a public contract.
 use Rattle.std.specs.Prelude.{ℕ, ◌<◌, Bool, MatchBool, List, length, take, Option, Result, Ok, Err}
-use Rattle.std.specs.Io.KnownBytes.{Appends, Keeps}
-use Rattle.verity_io.specs.Putting.{bytes_taken}
-use Rattle.verity_io.specs.declared.putting.PutFault.{PutFault}
-use Rattle.fsverity.specs.Runs.Outputs.{OutputTask, output_task}
-use Rattle.fsverity.specs.declared.runs.outputs.OutputTask.{OutputTask as Given}
+use Rattle.{std.specs.Io.KnownBytes.{Appends, Keeps}, verity_io.specs.{Putting.bytes_taken, declared.putting.PutFault.PutFault}}
+use Rattle.fsverity.specs.{Runs.Outputs.{OutputTask, output_task}, declared.runs.outputs.OutputTask.OutputTask as Given}
 
 -- a task, without the references that it holds
 abbrev pub task_of : Given → OutputTask

@@ -1,25 +1,13 @@
 -- A run of `fsverity digest` over one file with output files (fsverity(1), "--out-merkle-tree", "--out-descriptor"):
 -- the tree, then the descriptor, then the line. Nothing that comes after the first fault is written.
-use Rattle.std.specs.Prelude.{◌≡◌, ◌↔◌, ℕ, ◌<◌, Bool, MatchBool, List, length, take, Option, Result, Ok, Err}
-use Rattle.std.specs.Prelude.{IfErr, IsTrue}
-use Rattle.std.specs.Io.KnownBytes.{Appends, Keeps}
-use Rattle.command_line.specs.Writing.{WritesText}
-use Rattle.verity_format.specs.Descriptors.{descriptor_bytes, digest_of_file}
-use Rattle.verity_io.specs.Counting.{Change, Counts, TheDevice, TheSource, failed_at}
-use Rattle.verity_io.specs.Reading.{HasRead}
-use Rattle.verity_plan.specs.Settings.{TreeSettingsFields, digest_len}
-use Rattle.fsverity.specs.Faults.{IsTold, result_status, side_of}
-use Rattle.fsverity.specs.Runs.FileDigest.{FaultsIn, Stands, with_tree}
-use Rattle.fsverity.specs.Runs.Digested.{descriptor_of, is_too_large}
-use Rattle.verity_blocks.specs.Levels.{root_of_file}
-use Rattle.fsverity.specs.Texts.Lines.{digest_line}
-use Rattle.fsverity.specs.Texts.TextChanges.{OutputChange, WriterChange}
-use Rattle.fsverity.specs.declared.fault.Fault.{Fault}
-use Rattle.fsverity.specs.declared.fault.Fault.TheVariants.{Digest, Descriptor, DigestLine}
-use Rattle.fsverity.specs.declared.runs.digest_fault.DigestFault.{DigestFault}
-use Rattle.fsverity.specs.declared.runs.digest_fault.DigestFault.TheVariants.{TooLarge}
-use Rattle.fsverity.specs.declared.texts.digest_lines.Form.{Form}
-use Rattle.fsverity.specs.declared.runs.outputs.Written.{Written}
+use Rattle.std.specs.Prelude.{◌≡◌, ◌↔◌, ℕ, ◌<◌, Bool, MatchBool, List, length, take, Option, Result, Ok, Err, IfErr, IsTrue}
+use Rattle.{std.specs.Io.KnownBytes.{Appends, Keeps}, command_line.specs.Writing.WritesText, verity_blocks.specs.Levels.root_of_file}
+use Rattle.{verity_format.specs.Descriptors.{descriptor_bytes, digest_of_file}, verity_plan.specs.Settings.{TreeSettingsFields, digest_len}}
+use Rattle.verity_io.specs.{Counting.{Change, Counts, TheDevice, TheSource, failed_at}, Reading.HasRead}
+use Rattle.fsverity.specs.{Faults.{IsTold, result_status, side_of}, Runs.FileDigest.{FaultsIn, Stands, with_tree}}
+use Rattle.fsverity.specs.{Runs.Digested.{descriptor_of, is_too_large}, Texts.{Lines.digest_line, TextChanges.{OutputChange, WriterChange}}}
+use Rattle.fsverity.specs.declared.{fault.Fault.{Fault, TheVariants.{Digest, Descriptor, DigestLine}}, texts.digest_lines.Form.Form}
+use Rattle.fsverity.specs.declared.runs.{digest_fault.DigestFault.{DigestFault, TheVariants.TooLarge}, outputs.Written.Written}
 
 -- what a run gets beside the file's bytes: the settings, the form of the line, the file's name and its size, and
 -- whether the tree and the descriptor are wanted

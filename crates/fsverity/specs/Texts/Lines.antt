@@ -1,13 +1,9 @@
 -- The lines that `fsverity digest` prints, one for each file (fsverity(1), "fsverity digest"). That the file's name
 -- follows a formatted digest that isn't compact is this project's own.
 use Rattle.std.specs.Prelude.{◌≡◌, ℕ, ◌<◌, Bool, true, false, List, [], ◌∷◌, length, codes}
-use Rattle.std.specs.List.{concat}
-use Rattle.hex.specs.Hex.{encode_lower}
-use Rattle.verity_hash.specs.Hashing.{digest_len_of, name_of}
-use Rattle.verity_hash.specs.declared.algorithm.Algorithm.{Algorithm}
-use Rattle.verity_format.specs.Descriptors.{algorithm_number, formatted_digest}
-use Rattle.fsverity.specs.declared.texts.digest_lines.Form.{Form}
-use Rattle.fsverity.specs.declared.texts.digest_lines.Form.TheVariants.{Full, Compact, Builtin, CompactBuiltin}
+use Rattle.{std.specs.List.concat, hex.specs.Hex.encode_lower, verity_format.specs.Descriptors.{algorithm_number, formatted_digest}}
+use Rattle.verity_hash.specs.{Hashing.{digest_len_of, name_of}, declared.algorithm.Algorithm.Algorithm}
+use Rattle.fsverity.specs.declared.texts.digest_lines.Form.{Form, TheVariants.{Full, Compact, Builtin, CompactBuiltin}}
 
 -- the form that `--compact` and `--for-builtin-sig` ask for
 abbrev pub form_of : Bool → Bool → Form

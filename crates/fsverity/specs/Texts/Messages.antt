@@ -1,9 +1,7 @@
 -- The messages of `fsverity digest`, one line each; this project's own. Numbers are decimal, and names are left as they
 -- are.
 use Rattle.std.specs.Prelude.{ℕ, List, [], ◌∷◌, codes}
-use Rattle.std.specs.List.{concat}
-use Rattle.std.specs.Fmt.{decimal}
-use Rattle.fsverity.specs.declared.runs.digest_fault.DigestFault.{DigestFault}
+use Rattle.{std.specs.{List.concat, Fmt.decimal}, fsverity.specs.declared.runs.digest_fault.DigestFault.DigestFault}
 use Rattle.fsverity.specs.declared.runs.digest_fault.DigestFault.TheVariants.{TooLarge, SourceShort, SourceFailed, DeviceFailed, Memory}
 use Rattle.fsverity.specs.declared.options.option_fault.FsOptionFault.{FsOptionFault}
 use Rattle.fsverity.specs.declared.options.option_fault.FsOptionFault.TheVariants.{UnknownHash, BadBlockSize, BadSalt, OneFileOnly}

@@ -1,8 +1,7 @@
 -- The command line of `fsverity` (fsverity(1)), in the words of clap, and what a line holds.
 use Rattle.std.specs.Prelude.{◌≡◌, Option, Some, List, [], ◌∷◌, codes, map, option_map, unwrap_or, string_bytes}
-use Rattle.clap.specs.Words.{App, Row, Text, all_of, first_of}
+use Rattle.{clap.specs.Words.{App, Row, Text, all_of, first_of}, fsverity.specs.declared.words.line.Line.Line}
 use Rattle.command_line.specs.Arguments.{flag_of, flag_rule, named_app, option_rule, program_app, words_rule}
-use Rattle.fsverity.specs.declared.words.line.Line.{Line}
 
 -- the command `digest`
 unfoldable pub digest_app : App

@@ -1,26 +1,15 @@
 -- The root hash is asked for when all data of a plan has come: the last data block's digest goes up through all levels.
-use Rattle.std.proofs.Common.{◌≡◌, ℕ, ◌+◌, ◌-◌, ◌*◌, ◌/◌, ◌^◌, ◌<◌, ◌≤◌, List, length, length-drop, take}
-use Rattle.std.proofs.Common.{arith, refl, sym, ◌∙◌, ap, inl, inr}
-use Rattle.std.proofs.lemmas.Bool.{cases_lt}
-use Rattle.std.proofs.Math.Nat.{div-div-eq-div-mul, div-eq_of_lt, pow-le-pow_right, pow-suc}
-use Rattle.std.proofs.Common.{zero, suc, get_or, []}
-use Rattle.std.specs.Fork.{slice_chunk}
-use Rattle.verity_plan.specs.Plans.{IsPlan, PlanFields}
-use Rattle.verity_plan.specs.PlanCounts.{level_count_of}
-use Rattle.verity_plan.specs.Settings.{fan, hash}
-use Rattle.verity_plan.proofs.FanLemmas.{fan-some}
-use Rattle.verity_blocks.specs.ClosingOrder.{blocks_before}
-use Rattle.verity_blocks.specs.Levels.{blocks_up, data_blocks, root}
+use Rattle.std.proofs.Common.{◌≡◌, ℕ, ◌+◌, ◌-◌, ◌*◌, ◌/◌, ◌^◌, ◌<◌, ◌≤◌, List, length, length-drop, take, arith, refl, sym, ◌∙◌, ap, inl}
+use Rattle.std.proofs.{Common.{inr, zero, suc, get_or, []}, lemmas.Bool.cases_lt}
+use Rattle.std.{proofs.Math.Nat.{div-div-eq-div-mul, div-eq_of_lt, pow-le-pow_right, pow-suc}, specs.Fork.slice_chunk}
+use Rattle.verity_plan.{specs.{Plans.{IsPlan, PlanFields}, PlanCounts.level_count_of, Settings.{fan, hash}}, proofs.FanLemmas.fan-some}
+use Rattle.verity_blocks.specs.{ClosingOrder.blocks_before, Levels.{blocks_up, data_blocks, root}}
 use Rattle.verity_blocks.specs.Steps.Feeding.{HasCome, HasFed, HasWindow, Stands, after_windows, last_window, windows_before}
 use Rattle.verity_blocks.specs.Steps.OpenBlocks.{IsAsking, carry_state, digests_under, level_digest, open_block}
-use Rattle.verity_blocks.specs.Windows.{window_blocks, window_length}
-use Rattle.verity_blocks.proofs.ClosingSteps.Climbing.{blocks-most, handing-out}
-use Rattle.verity_blocks.proofs.Windows.LastByte.{last-block}
-use Rattle.verity_blocks.proofs.Levels.FirstBlocks.{plan-first_blocks}
-use Rattle.verity_blocks.proofs.Levels.CutBlocks.{length-cut}
-use Rattle.verity_blocks.proofs.Levels.LevelCounts.{height-level_count}
+use Rattle.verity_blocks.{specs.Windows.{window_blocks, window_length}, proofs.ClosingSteps.Climbing.{blocks-most, handing-out}}
+use Rattle.verity_blocks.proofs.Windows.{LastByte.last-block, RowsOfWindow.{placed-in-window, window-beside}}
+use Rattle.verity_blocks.proofs.Levels.{FirstBlocks.plan-first_blocks, CutBlocks.length-cut, LevelCounts.height-level_count}
 use Rattle.verity_blocks.proofs.OpenBlocks.DigestsInTurn.{quotient-same}
-use Rattle.verity_blocks.proofs.Windows.RowsOfWindow.{placed-in-window, window-beside}
 
 -- the last data block's digest comes to level 0
 pub IsAsking-first : (p : PlanFields) (levels first last : ℕ) (fed opened digest : List ℕ) → IsPlan p

@@ -1,16 +1,10 @@
 -- Runs of lists, and data blocks and hash blocks, with their digests.
-use Rattle.std.proofs.Common.{◌≡◌, ℕ, ◌+◌, ◌-◌, ◌*◌, ◌<◌, List, [], ◌∷◌, ◌++◌, take, drop, map, min, length, arith, sym}
-use Rattle.std.proofs.Common.{◌∙◌, ap, get_or, length-append, length-drop, replicate, ◌≤◌}
-use Rattle.std.proofs.lemmas.List.{drop-take, length-replicate, take_min}
-use Rattle.std.proofs.lemmas.Simd.{map-map}
-use Rattle.std.proofs.lemmas.List.FromFn.{get_or-map-range_with_len, map-range_with_len_more, length-map-range_with_len}
-use Rattle.std.specs.List.{range_with_len}
-use Rattle.std.specs.Fork.{slice_chunk}
-use Rattle.std.specs.Int.{div_ceil}
-use Rattle.verity_hash.specs.Hashing.{with_zeros}
+use Rattle.std.proofs.Common.{◌≡◌, ℕ, ◌+◌, ◌-◌, ◌*◌, ◌<◌, List, [], ◌∷◌, ◌++◌, take, drop, map, min, length, arith, sym, ◌∙◌, ap, get_or}
+use Rattle.std.proofs.{Common.{length-append, length-drop, replicate, ◌≤◌}, lemmas.List.{drop-take, length-replicate, take_min}}
+use Rattle.std.proofs.lemmas.{List.FromFn.{get_or-map-range_with_len, map-range_with_len_more, length-map-range_with_len}, Simd.map-map}
+use Rattle.{std.specs.{List.range_with_len, Fork.slice_chunk, Int.div_ceil}, verity_hash.specs.Hashing.with_zeros}
 use Rattle.verity_plan.specs.Settings.{TreeSettingsFields, hash, fan}
-use Rattle.verity_blocks.specs.Levels.{pack, cut, block_at, hash_block_of}
-use Rattle.verity_blocks.specs.Steps.PlainRoots.{digest_of_group, digest_of_block}
+use Rattle.verity_blocks.specs.{Levels.{pack, cut, block_at, hash_block_of}, Steps.PlainRoots.{digest_of_group, digest_of_block}}
 
 pub map-hash-pack : (s : TreeSettingsFields) (digests : List (List ℕ))
     → map (hash s) (pack s digests)

@@ -1,12 +1,8 @@
 -- Where the levels stand as one more data block comes.
-use Rattle.std.proofs.Common.{◌≡◌, ℕ, ◌+◌, ◌-◌, ◌*◌, ◌/◌, ◌%◌, ◌^◌, ◌<◌, arith, sym, ◌∙◌, ap}
-use Rattle.std.proofs.lemmas.Grind.{pow_more}
-use Rattle.std.proofs.lemmas.Nat.{div-add-mod', mod-mul-add, div-mul-add, pow-add}
-use Rattle.std.proofs.Math.Nat.{div-div-eq-div-mul, mul-div_cancel, one-le-pow, pow-zero}
-use Rattle.std.specs.Int.{div_ceil}
-use Rattle.verity_blocks.specs.Steps.OpenBlocks.{IsReached}
-use Rattle.verity_plan.proofs.CountLemmas.{div_ceil-below}
-use Rattle.verity_plan.proofs.IndexLemmas.{quotient-next}
+use Rattle.std.proofs.{Common.{◌≡◌, ℕ, ◌+◌, ◌-◌, ◌*◌, ◌/◌, ◌%◌, ◌^◌, ◌<◌, arith, sym, ◌∙◌, ap}, lemmas.Grind.pow_more}
+use Rattle.{std.proofs.lemmas.Nat.{div-add-mod', mod-mul-add, div-mul-add, pow-add}, verity_blocks.specs.Steps.OpenBlocks.IsReached}
+use Rattle.std.{proofs.Math.Nat.{div-div-eq-div-mul, mul-div_cancel, one-le-pow, pow-zero}, specs.Int.div_ceil}
+use Rattle.verity_plan.proofs.{CountLemmas.div_ceil-below, IndexLemmas.quotient-next}
 
 -- a number of data blocks, divided and rounded up, is one more than the place of the last
 pub div_ceil-last : (i w : ℕ) → 0 < w → div_ceil (i + 1) w ≡ i / w + 1

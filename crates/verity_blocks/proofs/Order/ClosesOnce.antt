@@ -1,20 +1,10 @@
 -- The closing order has each block once.
-use Rattle.std.proofs.Common.{◌≡◌, ℕ, zero, suc, ◌+◌, ◌*◌, ◌/◌, ◌%◌, ◌^◌, ◌<◌, ◌≤◌, Bool, cond}
-use Rattle.std.proofs.Common.{leb, List, ◌∷◌, arith, ◌∙◌, ap}
-use Rattle.std.proofs.Common.{ltb}
-use Rattle.std.proofs.lemmas.Bool.Decides.{nat_tests}
-use Rattle.std.proofs.lemmas.List.Sums.{sum_by-cons, sum_by-append}
-use Rattle.std.proofs.lemmas.Nat.{div-add-mod', mod_below, mod-mul-add}
-use Rattle.std.proofs.Math.Nat.{one-le-pow, mul-le-mul_right}
-use Rattle.std.specs.List.{range_with_len}
-use Rattle.std.specs.Prelude.{◌==◌, ◌&&◌}
-use Rattle.verity_plan.specs.Plans.{level_count, level_size, IsTreeBlock}
-use Rattle.verity_blocks.specs.ClosingOrder.{BlockIndex, block_index, closes, closing_with, closed_after, times, ClosesOnce}
-use Rattle.verity_blocks.specs.ClosingOrder.{closing_moment}
-use Rattle.verity_plan.proofs.CountLemmas.{mul-lt_div_ceil, mul_le}
-use Rattle.verity_plan.proofs.IndexLemmas.{quotient-below}
-use Rattle.verity_blocks.proofs.OpenBlocks.Reached.{next-slot}
-use Rattle.verity_blocks.proofs.Order.ClosingInTurn.{passing}
+use Rattle.std.proofs.Common.{◌≡◌, ℕ, zero, suc, ◌+◌, ◌*◌, ◌/◌, ◌%◌, ◌^◌, ◌<◌, ◌≤◌, Bool, cond, leb, List, ◌∷◌, arith, ◌∙◌, ap, ltb}
+use Rattle.std.proofs.lemmas.{Bool.Decides.nat_tests, List.Sums.{sum_by-cons, sum_by-append}, Nat.{div-add-mod', mod_below, mod-mul-add}}
+use Rattle.std.{proofs.Math.Nat.{one-le-pow, mul-le-mul_right}, specs.{List.range_with_len, Prelude.{◌==◌, ◌&&◌}}}
+use Rattle.verity_plan.{specs.Plans.{level_count, level_size, IsTreeBlock}, proofs.CountLemmas.{mul-lt_div_ceil, mul_le}}
+use Rattle.{verity_plan.proofs.IndexLemmas.quotient-below, verity_blocks.proofs.{OpenBlocks.Reached.next-slot, Order.ClosingInTurn.passing}}
+use Rattle.verity_blocks.specs.ClosingOrder.{BlockIndex, block_index, closes, closing_with, closed_after, times, ClosesOnce, closing_moment}
 
 -- one for a test that passes
 abbrev bit : Bool → ℕ

@@ -1,10 +1,6 @@
 -- How often a block is counted among others.
-use Rattle.std.proofs.Common.{◌≡◌, ℕ, ◌+◌, ◌<◌, cond, List, ◌∷◌}
-use Rattle.std.proofs.Common.{arith}
-use Rattle.std.proofs.lemmas.Bool.Decides.{nat_tests}
-use Rattle.std.proofs.lemmas.List.Sums.{sum_by-cons}
-use Rattle.std.specs.Prelude.{◌==◌, ◌&&◌, ◌⊎◌}
-use Rattle.verity_blocks.specs.ClosingOrder.{BlockIndex, times}
+use Rattle.std.proofs.{Common.{◌≡◌, ℕ, ◌+◌, ◌<◌, cond, List, ◌∷◌, arith}, lemmas.{Bool.Decides.nat_tests, List.Sums.sum_by-cons}}
+use Rattle.{std.specs.Prelude.{◌==◌, ◌&&◌, ◌⊎◌}, verity_blocks.specs.ClosingOrder.{BlockIndex, times}}
 
 -- one more block among those that are counted
 pub times-more : (l j : ℕ) (at : BlockIndex) (hash_blocks : List BlockIndex)

@@ -1,11 +1,8 @@
 -- Data blocks that are hashed side by side and added together.
 -- For the private functions; not needed to read a public contract.
 use Rattle.std.specs.Prelude.{◌≡◌, ℕ, ◌+◌, ◌<◌, ◌≤◌, List}
-use Rattle.std.specs.Fork.{slice_chunk}
-use Rattle.verity_plan.specs.Plans.{PlanFields}
-use Rattle.verity_plan.specs.Settings.{TreeSettingsFields, hash, fan}
-use Rattle.verity_blocks.specs.Steps.Closing.{EndsBlock}
-use Rattle.verity_blocks.specs.Steps.OpenBlocks.{level_digest}
+use Rattle.{std.specs.Fork.slice_chunk, verity_plan.specs.{Plans.PlanFields, Settings.{TreeSettingsFields, hash, fan}}}
+use Rattle.verity_blocks.specs.Steps.{Closing.EndsBlock, OpenBlocks.level_digest}
 
 -- `count` data blocks from i on stand in the rows
 abbrev pub HoldsDataBlocks : TreeSettingsFields → List (List ℕ) → ℕ → ℕ → List ℕ → Type 0

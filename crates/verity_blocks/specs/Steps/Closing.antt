@@ -1,10 +1,7 @@
 -- The hash blocks that close with a data block, in rising order of level.
 -- For the private functions; not needed to read a public contract.
 use Rattle.std.specs.Prelude.{◌≡◌, ◌⊎◌, ℕ, ◌+◌, ◌/◌, ◌%◌, ◌<◌, ◌≤◌, ◌^◌, true}
-use Rattle.verity_plan.specs.Plans.{PlanFields}
-use Rattle.verity_plan.specs.PlanCounts.{level_count_of}
-use Rattle.verity_plan.specs.Settings.{fan}
-use Rattle.verity_blocks.specs.ClosingOrder.{closes}
+use Rattle.{verity_plan.specs.{Plans.PlanFields, PlanCounts.level_count_of, Settings.fan}, verity_blocks.specs.ClosingOrder.closes}
 
 -- data block i is the last below a block of level 0
 abbrev pub EndsBlock : ℕ → ℕ → ℕ → Type 0

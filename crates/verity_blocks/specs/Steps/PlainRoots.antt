@@ -1,10 +1,8 @@
 -- The levels of digests rather than of blocks, for proofs and for the plain body of the root by whole lists; not needed
 -- to read a public contract.
 use Rattle.std.specs.Prelude.{ℕ, zero, suc, List, [], length, map, take, slice_index_or}
-use Rattle.std.specs.Fork.{slice_chunk}
-use Rattle.verity_plan.specs.Plans.{level_count}
+use Rattle.{std.specs.Fork.slice_chunk, verity_plan.specs.{Plans.level_count, Settings.{TreeSettingsFields, hash, fan}}}
 use Rattle.verity_blocks.specs.Levels.{block_at, hash_block_of, pack}
-use Rattle.verity_plan.specs.Settings.{TreeSettingsFields, hash, fan}
 
 -- the digest of the i-th data block
 abbrev pub digest_of_block : TreeSettingsFields → ℕ → List ℕ → ℕ → List ℕ

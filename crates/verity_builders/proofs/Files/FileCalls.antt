@@ -1,11 +1,7 @@
 -- Pieces that are fed to the builder of a file, and calls that ask it for its root hash between them.
-use Rattle.std.proofs.Common.{◌≡◌, ℕ, List, [], ◌∷◌, ◌++◌, map, refl, ◌∙◌, append_assoc}
-use Rattle.std.proofs.lemmas.List.{append-nil}
-use Rattle.std.proofs.lemmas.List.Folds.{flat_map-map}
-use Rattle.std.specs.List.{flat_map}
-use Rattle.verity_builders.specs.Feeding.{FeedsPieces, FileCall, IsAfterCall, IsAfterCalls, IsFedFile}
-use Rattle.verity_builders.specs.Feeding.{asks, bytes_fed, feeds}
-use Rattle.verity_builders.specs.declared.file_builder.FileBuilder.{FileBuilder}
+use Rattle.std.proofs.{Common.{◌≡◌, ℕ, List, [], ◌∷◌, ◌++◌, map, refl, ◌∙◌, append_assoc}, lemmas.List.{append-nil, Folds.flat_map-map}}
+use Rattle.{std.specs.List.flat_map, verity_builders.specs.declared.file_builder.FileBuilder.FileBuilder}
+use Rattle.verity_builders.specs.Feeding.{FeedsPieces, FileCall, IsAfterCall, IsAfterCalls, IsFedFile, asks, bytes_fed, feeds}
 
 -- after one call the settings are those before it, and the bytes those before it and those that are fed with it
 call-fed : (b after : FileBuilder) (memory memory_after fed : List ℕ) (call : FileCall)

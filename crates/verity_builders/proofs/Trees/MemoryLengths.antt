@@ -1,10 +1,6 @@
 -- The lengths of builders' memory.
-use Rattle.std.proofs.Common.{arith, ℕ, ◌*◌, ◌≤◌}
-use Rattle.std.proofs.lemmas.Nat.{mul-le}
-use Rattle.verity_plan.specs.PlanCounts.{level_count_of}
-use Rattle.verity_plan.specs.Plans.{IsPlan, PlanFields}
-use Rattle.verity_plan.proofs.FanLemmas.{hash_most}
-use Rattle.verity_plan.proofs.PlanLemmas.{levels_few}
+use Rattle.std.proofs.{Common.{arith, ℕ, ◌*◌, ◌≤◌}, lemmas.Nat.mul-le}
+use Rattle.verity_plan.{specs.{PlanCounts.level_count_of, Plans.{IsPlan, PlanFields}}, proofs.{FanLemmas.hash_most, PlanLemmas.levels_few}}
 
 -- the open blocks' length is far below the largest number
 pub open_blocks-most : (p : PlanFields) (n : ℕ) → IsPlan p → n ≤ level_count_of p

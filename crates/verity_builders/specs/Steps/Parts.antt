@@ -1,12 +1,8 @@
 -- The join of parts, between two calls. For the private functions; a public contract says only that digests were joined,
 -- and it needs none of these to be read.
-use Rattle.std.specs.Prelude.{◌≡◌, ◌<◌, ◌≤◌, ℕ, zero, suc, ◌+◌, ◌-◌, ◌*◌, ◌/◌, ◌%◌, ◌^◌, ◌++◌, ◌∷◌, [], Bool, true}
-use Rattle.std.specs.Prelude.{false, List, length}
-use Rattle.std.specs.Fork.{slice_chunk}
-use Rattle.verity_plan.specs.Plans.{PlanFields}
-use Rattle.verity_plan.specs.PlanCounts.{count_under}
-use Rattle.verity_plan.specs.Settings.{TreeSettingsFields, digest_len, fan}
-use Rattle.verity_blocks.specs.ClosingOrder.{BlockIndex, block_index, closed_after, first_closing}
+use Rattle.std.specs.Prelude.{◌≡◌, ◌<◌, ◌≤◌, ℕ, zero, suc, ◌+◌, ◌-◌, ◌*◌, ◌/◌, ◌%◌, ◌^◌, ◌++◌, ◌∷◌, [], Bool, true, false, List, length}
+use Rattle.{std.specs.Fork.slice_chunk, verity_blocks.specs.ClosingOrder.{BlockIndex, block_index, closed_after, first_closing}}
+use Rattle.verity_plan.specs.{Plans.PlanFields, PlanCounts.count_under, Settings.{TreeSettingsFields, digest_len, fan}}
 use Rattle.verity_blocks.specs.Steps.OpenBlocks.{HasClosed, HasOpenBlocks, level_digest}
 
 -- the plan of a tree above as many data blocks as a level has parts: its hash blocks are those of this level and above

@@ -1,33 +1,18 @@
 -- The verdict from what a comparison came to.
-use Rattle.std.proofs.Common.{◌≡◌, ◌≢◌, ℕ, ◌+◌, ◌-◌, ◌≤◌, Bool, true, false, List, [], ◌∷◌, ◌++◌, length}
-use Rattle.std.proofs.Common.{arith, sym, ◌∙◌, ap, refl, subst, Ok, Err, append_assoc}
-use Rattle.std.proofs.Common.{cond}
-use Rattle.std.proofs.lemmas.Bool.{false_from_ne_true, not_from_false, not_from_true}
-use Rattle.std.proofs.lemmas.Bool.Decides.{nat_tests}
-use Rattle.std.proofs.lemmas.List.Folds.{find-append}
-use Rattle.std.proofs.lemmas.List.Elements.{All-head, All-tail}
-use Rattle.std.proofs.lemmas.Slice.Eq.{bytes_eq-Decides}
-use Rattle.std.specs.Prelude.{find, Some, None}
-use Rattle.std.specs.Str.{bytes_eq}
-use Rattle.verity_pass.specs.Reading.{EndsWithin}
-use Rattle.verity_blocks.specs.ClosingOrder.{BlockIndex, block_index, closed_after}
-use Rattle.verity_pass.specs.Comparing.{ComesTo}
-use Rattle.verity_pass.specs.Steps.OnClosed.{IsStopFor, KeepsSame, HoldsAll, StopsComparing, effects, is_unread}
-use Rattle.verity_pass.specs.Steps.OnePass.{StopsFor}
-use Rattle.verity_blocks.specs.Levels.{root, data_blocks, whole_blocks}
-use Rattle.verity_plan.specs.Plans.{PlanFields, IsPlan}
-use Rattle.verity_plan.specs.Settings.{fan}
+use Rattle.std.proofs.Common.{◌≡◌, ◌≢◌, ℕ, ◌+◌, ◌-◌, ◌≤◌, Bool, true, false, List, [], ◌∷◌, ◌++◌, length, arith, sym, ◌∙◌, ap, refl, subst}
+use Rattle.std.proofs.{Common.{Ok, Err, append_assoc, cond}, lemmas.Bool.{false_from_ne_true, not_from_false, not_from_true}}
+use Rattle.std.proofs.lemmas.{Bool.Decides.nat_tests, List.{Folds.find-append, Elements.{All-head, All-tail}}, Slice.Eq.bytes_eq-Decides}
+use Rattle.{std.specs.{Prelude.{find, Some, None}, Str.bytes_eq}, verity_pass.specs.{Reading.EndsWithin, Comparing.ComesTo}}
+use Rattle.verity_pass.specs.Steps.{OnClosed.{IsStopFor, KeepsSame, HoldsAll, StopsComparing, effects, is_unread}, OnePass.StopsFor}
 use Rattle.verity_pass.specs.Verdicts.{NoneDiffers, HoldsBlockAt, differs, verdict_by, verdict}
-use Rattle.verity_pass.specs.declared.pass.comparing.CompareStop.{CompareStop}
+use Rattle.verity_pass.specs.declared.pass.{comparing.CompareStop.CompareStop, pass_fault.Stop.Stop}
+use Rattle.verity_pass.specs.declared.{comparing.CompareFault.TheVariants.{SourceShort, RootDiffers}, part.Part.Part}
+use Rattle.verity_pass.proofs.Passes.{OnePass.stops-next, ReadBlocks.whole_blocks-above}
+use Rattle.verity_blocks.specs.{ClosingOrder.{BlockIndex, block_index, closed_after}, Levels.{root, data_blocks, whole_blocks}}
+use Rattle.verity_blocks.proofs.{Order.ClosingInTurn.closed_after-prefix, Levels.DataBlocks.whole_blocks-all}
+use Rattle.verity_plan.specs.{Plans.{PlanFields, IsPlan}, Settings.fan}
 use Rattle.verity_pass.specs.declared.pass.comparing.CompareStop.TheVariants as P
-use Rattle.verity_pass.specs.declared.comparing.CompareFault.TheVariants.{SourceShort, RootDiffers}
 use Rattle.verity_pass.specs.declared.comparing.CompareFault.TheVariants as F
-use Rattle.verity_pass.specs.declared.part.Part.{Part}
-use Rattle.verity_pass.specs.declared.pass.pass_fault.Stop.{Stop}
-use Rattle.verity_pass.proofs.Passes.OnePass.{stops-next}
-use Rattle.verity_blocks.proofs.Order.ClosingInTurn.{closed_after-prefix}
-use Rattle.verity_blocks.proofs.Levels.DataBlocks.{whole_blocks-all}
-use Rattle.verity_pass.proofs.Passes.ReadBlocks.{whole_blocks-above}
 
 -- no first one that differs among blocks that stand there
 find-none : (p : PlanFields) (blocks : List (List ℕ)) (device : List ℕ) (hash_blocks : List BlockIndex)

@@ -1,53 +1,28 @@
 -- The one pass over the data: windows are read, and the hash blocks that close are handed on.
-use Rattle.std.proofs.Common.{List, [], ap, append_assoc, arith, drop, inl, inr, length, length-drop, refl}
-use Rattle.std.proofs.Common.{replicate, sym, take, ℕ}
-use Rattle.std.proofs.Common.{◌*◌, ◌%◌, ◌++◌, ◌+◌, ◌-◌, ◌/◌, ◌<◌, ◌^◌, ◌∙◌, ◌∷◌, ◌≡◌, ◌≤◌}
+use Rattle.std.proofs.Common.{List, [], ap, append_assoc, arith, drop, inl, inr, length, length-drop, refl, replicate, sym, take, ℕ, ◌*◌}
+use Rattle.{std.proofs.Common.{◌%◌, ◌++◌, ◌+◌, ◌-◌, ◌/◌, ◌<◌, ◌^◌, ◌∙◌, ◌∷◌, ◌≡◌, ◌≤◌}, verity_blocks.specs.Levels.{cut, data_blocks, root}}
 use Rattle.std.proofs.lemmas.List.{append-nil, drop_all, length-take, length-take-le, take-take, take_all}
-use Rattle.std.proofs.lemmas.Nat.{div-add-mod'}
-use Rattle.std.proofs.Math.Nat.{div-eq_of_lt-le, mul-div_cancel, pow-zero}
-use Rattle.std.proofs.Math.Seq.{take-add}
-use Rattle.std.specs.Fork.{slice_chunk}
-use Rattle.verity_plan.specs.Plans.{IsPlan, PlanFields, start_byte}
-use Rattle.verity_plan.specs.PlanCounts.{level_count_of}
-use Rattle.verity_plan.specs.Settings.{IsValid, TreeSettingsFields, fan, hash}
-use Rattle.verity_plan.proofs.FanLemmas.{fan-two, some_data}
+use Rattle.std.proofs.lemmas.{List.Elements.{Contains-append_left, Contains-append_right}, Nat.div-add-mod', Bool.cases_lt}
+use Rattle.std.{proofs.Math.{Nat.{div-eq_of_lt-le, mul-div_cancel, pow-zero}, Seq.take-add}, specs.Fork.slice_chunk}
+use Rattle.{std.specs.Prelude.{Bool, true, false, Some, None, if◌then◌else◌}, verity_hash.specs.Hashing.with_zeros}
+use Rattle.verity_plan.specs.{Plans.{IsPlan, PlanFields, start_byte}, PlanCounts.level_count_of}
+use Rattle.verity_plan.{specs.Settings.{IsValid, TreeSettingsFields, fan, hash}, proofs.FanLemmas.{fan-two, some_data}}
+use Rattle.verity_plan.proofs.{CountLemmas.le-div_ceil, PlanLemmas.blocks-some}
 use Rattle.verity_blocks.specs.ClosingOrder.{BlockIndex, blocks_before, closed_after, handed_out, ComesNext, block_index, first_closing}
-use Rattle.verity_blocks.specs.Levels.{cut, data_blocks, root}
-use Rattle.verity_blocks.specs.Steps.Feeding.{EndsWindow, HasFed, IsHandingOut, TakesMore, windows_before}
-use Rattle.verity_blocks.specs.Steps.OpenBlocks.{HasClosed}
-use Rattle.verity_blocks.specs.TreeOnDevice.{tree_block}
-use Rattle.verity_blocks.specs.Windows.{window_blocks, window_length}
-use Rattle.verity_blocks.proofs.ClosingSteps.Climbing.{blocks-most}
+use Rattle.verity_blocks.specs.Steps.{Feeding.{EndsWindow, HasFed, IsHandingOut, TakesMore, windows_before}, OpenBlocks.HasClosed}
+use Rattle.verity_blocks.specs.{Steps.Closing.ClosesWith, TreeOnDevice.tree_block, Windows.{window_blocks, window_length}}
+use Rattle.verity_blocks.{specs.TreeWriting.device_with, proofs.ClosingSteps.Climbing.blocks-most}
 use Rattle.verity_blocks.proofs.Windows.LastByte.{last-below, whole-block}
-use Rattle.verity_blocks.proofs.OpenBlocks.ClosingBlocks.{closes-closed}
-use Rattle.verity_blocks.proofs.Order.HandedOut.{handed-out-stays}
-use Rattle.verity_blocks.proofs.Levels.CutBlocks.{length-cut}
 use Rattle.verity_blocks.proofs.Windows.BytesToWindow.{HasFed-filled, closed_after-placed, windows_before-filled}
-use Rattle.verity_blocks.proofs.Windows.RowsOfWindow.{placed-in-window}
-use Rattle.std.proofs.lemmas.List.Elements.{Contains-append_left, Contains-append_right}
-use Rattle.std.specs.Prelude.{Bool, true, false, Some, None, if◌then◌else◌}
-use Rattle.verity_plan.proofs.CountLemmas.{le-div_ceil}
-use Rattle.verity_plan.proofs.PlanLemmas.{blocks-some}
-use Rattle.verity_pass.proofs.Passes.ReadBlocks.{HasRead-none, data-next}
-use Rattle.std.proofs.lemmas.Bool.{cases_lt}
-use borrow.Rule.Slice.PartMut.{put_mid}
-use Rattle.verity_hash.specs.Hashing.{with_zeros}
+use Rattle.verity_blocks.proofs.{Windows.RowsOfWindow.placed-in-window, OpenBlocks.ClosingBlocks.closes-closed}
+use Rattle.verity_blocks.proofs.{OpenBlocks.DigestsInTurn.{IsCarrying-first, level_digest-root}, Order.HandedOut.handed-out-stays}
 use Rattle.verity_blocks.proofs.Order.ClosingInTurn.{closing-front, closed_after-more, closed_after-prefix, device_with-append}
-use Rattle.verity_blocks.proofs.Order.ClosingInTurn.{first_closing-more}
-use Rattle.verity_blocks.specs.TreeWriting.{device_with}
-use Rattle.verity_io.specs.Writing.{put}
-use Rattle.verity_pass.specs.Reading.{ReadsUpTo, bytes_of}
-use Rattle.verity_io.specs.Counting.{Counts, TheDevice, TheSource, is_call_of}
-use Rattle.verity_io.specs.Reading.{HasRead}
-use Rattle.verity_blocks.specs.Steps.Closing.{ClosesWith}
-use Rattle.verity_pass.specs.Steps.DataBlocks.{StopsInBlock, side_of as block_side}
-use Rattle.verity_pass.specs.declared.pass.pass_fault.BlockFault.{BlockFault}
-use Rattle.verity_pass.specs.declared.pass.pass_fault.BlockFault.TheVariants.{Short, Failed}
-use Rattle.verity_blocks.proofs.OpenBlocks.DigestsInTurn.{IsCarrying-first, level_digest-root}
-use Rattle.verity_pass.specs.Steps.OnClosed.{stop_side}
-use Rattle.verity_pass.specs.Steps.OnClosed.{Effects}
-use Rattle.verity_pass.specs.Steps.OnePass.{StopsFor}
-use Rattle.verity_pass.specs.declared.pass.pass_fault.Stop.{Stop}
+use Rattle.verity_blocks.proofs.{Order.ClosingInTurn.first_closing-more, Levels.CutBlocks.length-cut}
+use Rattle.verity_pass.{proofs.Passes.ReadBlocks.{HasRead-none, data-next}, specs.Reading.{ReadsUpTo, bytes_of}}
+use Rattle.verity_pass.specs.Steps.{DataBlocks.{StopsInBlock, side_of as block_side}, OnClosed.{stop_side, Effects}, OnePass.StopsFor}
+use Rattle.verity_pass.specs.declared.pass.pass_fault.{BlockFault.{BlockFault, TheVariants.{Short, Failed}}, Stop.Stop}
+use Rattle.verity_io.specs.{Writing.put, Counting.{Counts, TheDevice, TheSource, is_call_of}, Reading.HasRead}
+use borrow.Rule.Slice.PartMut.{put_mid}
 
 -- the data blocks of a plan are those of the bytes that it wants
 pub data_blocks-front : (p : PlanFields) (bytes : List ℕ) → data_blocks p (take p.wanted bytes) ≡ data_blocks p bytes

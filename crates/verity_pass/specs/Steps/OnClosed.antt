@@ -1,17 +1,11 @@
 -- What becomes of hash blocks that have closed, and of a device with them: they are written, or compared.
 -- For the private functions; not needed to read a public contract.
 use Rattle.std.specs.Prelude.{◌≡◌, ◌≢◌, ℕ, Bool, true, false, List, Option, Some, None, if◌then◌else◌}
-use Rattle.verity_io.specs.Counting.{Side, TheDevice}
-use Rattle.verity_io.specs.Writing.{Spoiled}
-use Rattle.verity_io.specs.declared.failed.Failed.{Failed}
+use Rattle.verity_io.specs.{Counting.{Side, TheDevice}, Writing.Spoiled, declared.failed.Failed.Failed}
 use Rattle.verity_plan.specs.Plans.{PlanFields, start_byte_of}
-use Rattle.verity_blocks.specs.ClosingOrder.{BlockIndex, block_index}
-use Rattle.verity_blocks.specs.TreeOnDevice.{stored_block, tree_block}
-use Rattle.verity_blocks.specs.TreeWriting.{device_with}
-use Rattle.verity_pass.specs.Verdicts.{NoneDiffers, part_of}
-use Rattle.verity_pass.specs.declared.pass.comparing.CompareStop.{CompareStop}
-use Rattle.verity_pass.specs.declared.pass.comparing.CompareStop.TheVariants.{Unread, Differs}
-use Rattle.verity_pass.specs.declared.pass.pass_fault.Stop.{Stop}
+use Rattle.verity_blocks.specs.{ClosingOrder.{BlockIndex, block_index}, TreeOnDevice.{stored_block, tree_block}, TreeWriting.device_with}
+use Rattle.verity_pass.specs.{Verdicts.{NoneDiffers, part_of}, declared.pass.comparing.CompareStop.CompareStop}
+use Rattle.verity_pass.specs.declared.pass.{comparing.CompareStop.TheVariants.{Unread, Differs}, pass_fault.Stop.Stop}
 
 -- whose call failed: the device's, or no one's
 abbrev pub side_by : {F : Type 0} → (F → Bool) → F → Option Side

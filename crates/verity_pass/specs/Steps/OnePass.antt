@@ -1,20 +1,11 @@
 -- One pass over the data: how much was read, and what becomes of a device with the hash blocks that closed.
 -- For the private functions; not needed to read a public contract.
 use Rattle.std.specs.Prelude.{◌≡◌, ℕ, ◌+◌, ◌<◌, ◌≤◌, List, [], length, Result, Ok, Err, IfOk}
-use Rattle.verity_io.specs.Counting.{Change, Counts, TheDevice, TheSource, failed_at}
-use Rattle.verity_hash.specs.declared.digest.Digest.{Digest}
-use Rattle.verity_plan.specs.Plans.{PlanFields}
-use Rattle.verity_plan.specs.Settings.{digest_len, fan}
-use Rattle.verity_blocks.specs.ClosingOrder.{BlockIndex, block_index, ComesNext, closed_after}
-use Rattle.verity_blocks.specs.Levels.{data_blocks, root}
-use Rattle.verity_io.specs.Reading.{HasRead}
-use Rattle.verity_pass.specs.Reading.{ReadsUpTo, bytes_of}
-use Rattle.verity_pass.specs.Steps.DataBlocks.{StopsInBlock}
-use Rattle.verity_pass.specs.Steps.OnClosed.{Effects}
-use Rattle.verity_pass.specs.Steps.PassFaults.{side_of}
-use Rattle.verity_pass.specs.declared.pass.pass_fault.PassFault.{PassFault}
-use Rattle.verity_pass.specs.declared.pass.pass_fault.PassFault.TheVariants.{InData, AtBlock}
-use Rattle.verity_pass.specs.declared.pass.pass_fault.Stop.{Stop}
+use Rattle.verity_io.specs.{Counting.{Change, Counts, TheDevice, TheSource, failed_at}, Reading.HasRead}
+use Rattle.{verity_hash.specs.declared.digest.Digest.Digest, verity_plan.specs.{Plans.PlanFields, Settings.{digest_len, fan}}}
+use Rattle.verity_blocks.specs.{ClosingOrder.{BlockIndex, block_index, ComesNext, closed_after}, Levels.{data_blocks, root}}
+use Rattle.verity_pass.specs.{Reading.{ReadsUpTo, bytes_of}, Steps.{DataBlocks.StopsInBlock, OnClosed.Effects, PassFaults.side_of}}
+use Rattle.verity_pass.specs.declared.pass.pass_fault.{PassFault.{PassFault, TheVariants.{InData, AtBlock}}, Stop.Stop}
 
 -- the answer, and how much was read
 abbrev pub Passes : {F : Type 0} → PlanFields → Result Digest (PassFault F) → List ℕ → List ℕ → Type 0

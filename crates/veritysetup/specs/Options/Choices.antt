@@ -1,26 +1,19 @@
 -- What the options choose, or the first fault, in this order: numbers, hash algorithm, hash type, block sizes, salt,
 -- UUID, hash offset, then whether the data makes a plan and leaves the hash area alone, and the root hash. The order is
 -- this project's own.
-use Rattle.std.specs.Prelude.{ℕ, ◌/◌, ◌&&◌, Bool, not, nat_lt, List, Option, Result, Ok, Err, ok_or, unwrap_or}
-use Rattle.std.specs.Prelude.{if◌then◌else◌}
-use Rattle.verity_plan.specs.Settings.{TreeSettingsFields, rule_of}
-use Rattle.verity_plan.specs.CheckedSettings.{type_of_number}
-use Rattle.verity_plan.specs.declared.hash_type.HashType.{HashType}
-use Rattle.verity_hash.specs.declared.algorithm.Algorithm.{Algorithm}
-use Rattle.command_line.specs.Options.{algorithm_or_default, default_block_size, ◌>>=◌}
-use Rattle.veritysetup.specs.Options.OptionTexts.{OptionTexts, superblock_uuid, block_size_of, number_if_given}
-use Rattle.veritysetup.specs.Options.OptionTexts.{number_option, root_if_given, salt_or_random, uuid_or_random}
-use Rattle.veritysetup.specs.declared.options.option_fault.OptionName.TheVariants.{Format, DataBlockSize, HashBlockSize}
-use Rattle.veritysetup.specs.declared.options.option_fault.OptionName.TheVariants.{DataBlocks, HashOffset}
-use Rattle.veritysetup.specs.declared.options.option_fault.OptionFault.{OptionFault}
-use Rattle.veritysetup.specs.declared.options.option_fault.OptionFault.TheVariants.{BadNumber, UnknownHash, BadHashType}
-use Rattle.veritysetup.specs.declared.options.option_fault.OptionFault.TheVariants.{BadBlockSize, BadSalt, BadUuid}
-use Rattle.veritysetup.specs.declared.options.option_fault.OptionFault.TheVariants.{BadHashOffset, NoData, TooLarge}
-use Rattle.veritysetup.specs.declared.options.option_fault.OptionFault.TheVariants.{Overlap, BadRoot}
+use Rattle.std.specs.Prelude.{ℕ, ◌/◌, ◌&&◌, Bool, not, nat_lt, List, Option, Result, Ok, Err, ok_or, unwrap_or, if◌then◌else◌}
+use Rattle.verity_plan.specs.{Settings.{TreeSettingsFields, rule_of}, CheckedSettings.type_of_number, declared.hash_type.HashType.HashType}
+use Rattle.{verity_plan.specs.declared.plan_fault.PlanFault.PlanFault, verity_hash.specs.declared.algorithm.Algorithm.Algorithm}
 use Rattle.verity_plan.specs.Plans.{PlanFields, multiple_of, offset_unit, plan_at, superblock_size}
-use Rattle.verity_plan.specs.declared.plan_fault.PlanFault.{PlanFault}
+use Rattle.command_line.specs.Options.{algorithm_or_default, default_block_size, ◌>>=◌}
+use Rattle.veritysetup.specs.Options.OptionTexts.{OptionTexts, superblock_uuid, block_size_of, number_if_given, number_option}
+use Rattle.veritysetup.specs.Options.{OptionTexts.{root_if_given, salt_or_random, uuid_or_random}, Settings.SettingsFields}
+use Rattle.veritysetup.specs.declared.options.option_fault.OptionName.TheVariants.{Format, DataBlockSize, HashBlockSize, DataBlocks}
+use Rattle.veritysetup.specs.declared.options.option_fault.{OptionName.TheVariants.HashOffset, OptionFault.OptionFault}
+use Rattle.veritysetup.specs.declared.options.option_fault.OptionFault.TheVariants.{BadNumber, UnknownHash, BadHashType, BadBlockSize}
+use Rattle.veritysetup.specs.declared.options.option_fault.OptionFault.TheVariants.{BadSalt, BadUuid, BadHashOffset, NoData, TooLarge}
+use Rattle.veritysetup.specs.declared.options.option_fault.OptionFault.TheVariants.{Overlap, BadRoot}
 use Rattle.verity_plan.specs.declared.plan_fault.PlanFault.TheVariants as plan
-use Rattle.veritysetup.specs.Options.Settings.{SettingsFields}
 
 -- what the tree is made by, with this salt if there is one, or the first fault of block sizes and salt
 abbrev pub tree_of : Algorithm → HashType → ℕ → ℕ → Option (List ℕ) → Result TreeSettingsFields OptionFault

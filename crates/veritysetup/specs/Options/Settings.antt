@@ -1,13 +1,9 @@
 -- The settings of a hash device, which the options choose (veritysetup(8), "format", "root_hash"; cryptsetup's on-disk
 -- format page). A root hash is written in hexadecimal digits of either case, two for each byte of a digest.
 use Rattle.std.specs.Prelude.{ℕ, ◌*◌, ◌%◌, ◌==◌, List, length, Option, None, if◌then◌else◌, ◌≡◌, Bool, Some}
-use Rattle.std.specs.Result.{result_ok}
-use Rattle.hex.specs.Hex.{decode_of}
-use Rattle.verity_hash.specs.Hashing.{digest_len_of}
-use Rattle.verity_hash.specs.declared.algorithm.Algorithm.{Algorithm}
-use Rattle.verity_plan.specs.Settings.{rule_of}
-use Rattle.verity_plan.specs.Plans.{PlanFields, base_of, offset_unit}
-use Rattle.verity_plan.specs.declared.hash_type.HashType.{HashType}
+use Rattle.{std.specs.Result.result_ok, hex.specs.Hex.decode_of}
+use Rattle.verity_hash.specs.{Hashing.digest_len_of, declared.algorithm.Algorithm.Algorithm}
+use Rattle.verity_plan.specs.{Settings.rule_of, Plans.{PlanFields, base_of, offset_unit}, declared.hash_type.HashType.HashType}
 
 -- the bytes that the text of a root hash stands for, if it has two digits for each byte of a digest
 abbrev pub read_root : Algorithm → List ℕ → Option (List ℕ)

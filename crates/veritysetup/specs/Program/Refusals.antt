@@ -1,12 +1,10 @@
 -- How a command ends if it refuses an option of its line, or data that ends too soon.
 -- For the private functions; not needed to read a public contract.
 use Rattle.std.specs.Prelude.{◌≡◌, ℕ, Result, Err, option_map, string_bytes}
-use Rattle.verity_pass.specs.declared.building.BuildFault.TheVariants as build
-use Rattle.veritysetup.specs.Options.Choices.{offset_of}
-use Rattle.veritysetup.specs.declared.fault.Fault.{Fault}
-use Rattle.veritysetup.specs.declared.fault.Fault.TheVariants as fault
-use Rattle.veritysetup.specs.declared.options.option_fault.OptionFault.{OptionFault}
+use Rattle.veritysetup.specs.{Options.Choices.offset_of, declared.{fault.Fault.Fault, options.option_fault.OptionFault.OptionFault}}
 use Rattle.veritysetup.specs.declared.words.line.Line.{Line}
+use Rattle.verity_pass.specs.declared.building.BuildFault.TheVariants as build
+use Rattle.veritysetup.specs.declared.fault.Fault.TheVariants as fault
 
 -- the byte at which dump or verify reads the superblock by a line, or why the line's offset is refused
 abbrev pub line_offset : Line → Result ℕ OptionFault

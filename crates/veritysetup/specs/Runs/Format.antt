@@ -1,24 +1,13 @@
 -- How a run of format ends (veritysetup(8), "format"; statuses and messages are this project's own). If it stops at a
 -- fault, nothing that comes later has been done: the superblock is written after all hash blocks, the report last.
 use Rattle.std.specs.Prelude.{◌≡◌, ℕ, true, List, Result, Ok, Err, if◌then◌else◌, Option}
-use Rattle.std.specs.Io.KnownBytes.{Appends, Keeps}
-use Rattle.verity_io.specs.Counting.{Change, Counts, TheDevice, TheSource, failed_at}
-use Rattle.verity_io.specs.Writing.{put, Spoiled}
-use Rattle.verity_plan.specs.Plans.{superblock_size}
-use Rattle.verity_pass.specs.Building.{Builds, BuildsOnDevice}
-use Rattle.verity_io.specs.Reading.{HasRead}
-use Rattle.verity_blocks.specs.TreeWriting.{tree_on_device}
-use Rattle.verity_blocks.specs.Levels.{data_blocks}
-use Rattle.veritysetup.specs.Faults.{IsTold, result_status, side_of}
-use Rattle.veritysetup.specs.Options.Settings.{SettingsFields}
-use Rattle.veritysetup.specs.Runs.HashDevice.{superblock_for}
-use Rattle.veritysetup.specs.Texts.TextChanges.{TextChange}
-use Rattle.command_line.specs.Writing.{WritesText}
-use Rattle.veritysetup.specs.declared.fault.Fault.{Fault}
+use Rattle.{std.specs.Io.KnownBytes.{Appends, Keeps}, verity_plan.specs.Plans.superblock_size, command_line.specs.Writing.WritesText}
+use Rattle.verity_io.specs.{Counting.{Change, Counts, TheDevice, TheSource, failed_at}, Writing.{put, Spoiled}, Reading.HasRead}
+use Rattle.{verity_pass.specs.Building.{Builds, BuildsOnDevice}, verity_blocks.specs.{TreeWriting.tree_on_device, Levels.data_blocks}}
+use Rattle.veritysetup.specs.{Faults.{IsTold, result_status, side_of}, Options.Settings.SettingsFields, Runs.HashDevice.superblock_for}
+use Rattle.veritysetup.specs.{Runs.Formatted.{root_above, format_report}, Texts.TextChanges.TextChange, declared.fault.Fault.Fault}
+use Rattle.{veritysetup.specs.declared.runs.format.Formatted.Formatted as FormattedOver, verity_format.specs.Superblocks.superblock_bytes}
 use Rattle.veritysetup.specs.declared.fault.Fault.TheVariants as fault
-use Rattle.veritysetup.specs.declared.runs.format.Formatted.{Formatted as FormattedOver}
-use Rattle.veritysetup.specs.Runs.Formatted.{root_above, format_report}
-use Rattle.verity_format.specs.Superblocks.{superblock_bytes}
 
 -- a device with the superblock at the hash offset, if there is one
 abbrev pub with_superblock : SettingsFields → List ℕ → List ℕ

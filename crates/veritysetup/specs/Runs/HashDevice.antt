@@ -1,8 +1,7 @@
 -- The superblock of a hash device: the bytes that it is read from, and the one that settings have (cryptsetup's on-disk
 -- format page, "dm-verity header").
 use Rattle.std.specs.Prelude.{ℕ, List, take, drop}
-use Rattle.verity_format.specs.Superblocks.{SuperblockFields}
-use Rattle.verity_plan.specs.Plans.{superblock_size}
+use Rattle.{verity_format.specs.Superblocks.SuperblockFields, verity_plan.specs.Plans.superblock_size}
 use Rattle.veritysetup.specs.Options.Settings.{SettingsFields}
 
 -- the bytes that a superblock is read from: as many as one has, from the offset on, or fewer if the device ends before

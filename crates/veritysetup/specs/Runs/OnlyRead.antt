@@ -1,9 +1,7 @@
 -- What a step that only reads a hash device keeps of it.
 -- For the private functions; not needed to read a public contract.
 use Rattle.std.specs.Prelude.{◌≡◌, ℕ, List, Result}
-use Rattle.verity_io.specs.Counting.{Counts, TheDevice, failed_at}
-use Rattle.veritysetup.specs.Faults.{side_of}
-use Rattle.veritysetup.specs.declared.fault.Fault.{Fault}
+use Rattle.{verity_io.specs.Counting.{Counts, TheDevice, failed_at}, veritysetup.specs.{Faults.side_of, declared.fault.Fault.Fault}}
 
 -- what the members of its trait say of a device before and after a step with this result: if it told its bytes it still
 -- does, and they are the same; its count of failures rises exactly if the result is a failed call of the device

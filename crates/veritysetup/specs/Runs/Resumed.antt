@@ -1,11 +1,8 @@
 -- A device on which format has begun: what format doesn't write is as before, and the superblock comes last.
 use Rattle.std.specs.Prelude.{◌≡◌, ℕ, ◌≤◌, false, List, length, slice_index}
-use Rattle.veritysetup.specs.Options.Settings.{SettingsFields}
-use Rattle.veritysetup.specs.Runs.Formatted.{is_written}
-use Rattle.veritysetup.specs.declared.fault.Fault.{Fault}
+use Rattle.veritysetup.specs.{Options.Settings.SettingsFields, Runs.Formatted.is_written, declared.fault.Fault.Fault}
+use Rattle.veritysetup.specs.declared.runs.verify_input.VerifyInput.{VerifyInput, TheVariants.{Stored, Given}}
 use Rattle.veritysetup.specs.declared.fault.Fault.TheVariants as fault
-use Rattle.veritysetup.specs.declared.runs.verify_input.VerifyInput.{VerifyInput}
-use Rattle.veritysetup.specs.declared.runs.verify_input.VerifyInput.TheVariants.{Stored, Given}
 
 -- the bytes that format doesn't write are as before, and nothing is added past the last byte that it writes
 pub record KeepsOthers (s : SettingsFields) (before after : List ℕ) : Type 0 where

@@ -1,11 +1,8 @@
 -- What reading the superblock of a hash device gives, or why it gives none.
 use Rattle.std.specs.Prelude.{◌≡◌, ℕ, List, Some, Result, Ok, Err}
-use Rattle.verity_format.specs.Superblocks.{IsSuperblock}
-use Rattle.verity_format.specs.CheckedSuperblocks.{superblock_fault}
-use Rattle.verity_format.specs.declared.superblock.Superblock.{Superblock}
-use Rattle.veritysetup.specs.declared.fault.Fault.{Fault}
+use Rattle.verity_format.specs.{Superblocks.IsSuperblock, CheckedSuperblocks.superblock_fault, declared.superblock.Superblock.Superblock}
+use Rattle.veritysetup.specs.{declared.fault.Fault.Fault, Runs.HashDevice.superblock_at}
 use Rattle.veritysetup.specs.declared.fault.Fault.TheVariants as fault
-use Rattle.veritysetup.specs.Runs.HashDevice.{superblock_at}
 
 -- the device can't be read, or what it holds is no superblock: the only faults of reading one
 abbrev pub IsSuperblockFault : Fault → Type 0

@@ -2,21 +2,14 @@
 use Rattle.std.specs.Prelude.{◌≡◌, ℕ, true, List, Option, None, Result, Ok, Err, IfErr}
 use Rattle.verity_format.specs.Superblocks.{SuperblockFields, IsSuperblock}
 use Rattle.verity_io.specs.Counting.{Change, Counts, TheDevice, TheSource, failed_at}
-use Rattle.verity_plan.specs.Plans.{PlanFields, plan_at}
-use Rattle.verity_plan.specs.declared.plan_fault.PlanFault.{PlanFault}
-use Rattle.verity_pass.specs.Comparing.{CompareReads, Judges}
-use Rattle.verity_pass.specs.declared.comparing.CompareFault.{CompareFault}
-use Rattle.veritysetup.specs.Faults.{IsTold, result_status, side_of}
-use Rattle.veritysetup.specs.Options.Settings.{read_root}
-use Rattle.veritysetup.specs.Runs.HashDevice.{superblock_at}
-use Rattle.veritysetup.specs.Runs.StoredSuperblock.{IsSuperblockFault, ReadsSuperblock}
-use Rattle.veritysetup.specs.declared.fault.Fault.{Fault}
+use Rattle.verity_plan.specs.{Plans.{PlanFields, plan_at}, declared.plan_fault.PlanFault.PlanFault}
+use Rattle.verity_pass.specs.{Comparing.{CompareReads, Judges}, declared.comparing.CompareFault.CompareFault}
+use Rattle.veritysetup.specs.{Faults.{IsTold, result_status, side_of}, Options.Settings.read_root, Runs.HashDevice.superblock_at}
+use Rattle.veritysetup.specs.{Runs.{StoredSuperblock.{IsSuperblockFault, ReadsSuperblock}, Verified.Trusts}, declared.fault.Fault.Fault}
+use Rattle.veritysetup.specs.declared.runs.{verify.Verified.Verified as VerifiedOver, verify_input.VerifyInput.VerifyInput}
+use Rattle.veritysetup.specs.declared.runs.verify_input.VerifyInput.TheVariants.{Stored, Given}
 use Rattle.veritysetup.specs.declared.fault.Fault.TheVariants as fault
 use Rattle.veritysetup.specs.declared.options.option_fault.OptionFault.TheVariants as option
-use Rattle.veritysetup.specs.declared.runs.verify.Verified.{Verified as VerifiedOver}
-use Rattle.veritysetup.specs.declared.runs.verify_input.VerifyInput.{VerifyInput}
-use Rattle.veritysetup.specs.declared.runs.verify_input.VerifyInput.TheVariants.{Stored, Given}
-use Rattle.veritysetup.specs.Runs.Verified.{Trusts}
 
 -- the faults before anything is compared: no superblock is read, the hash area that one describes is too large, or the
 -- text is no root hash

@@ -2,14 +2,9 @@
 -- For the private functions; not needed to read a public contract.
 use Rattle.std.specs.Prelude.{◌≡◌, ℕ, List, Option, Some, None, Result, Ok, Err}
 use Rattle.verity_plan.specs.Plans.{PlanFields}
-use Rattle.veritysetup.specs.Options.Settings.{read_root}
-use Rattle.veritysetup.specs.Runs.Verify.{Refuses, RefusesStored}
-use Rattle.veritysetup.specs.Runs.Verified.{Trusts, Describes}
-use Rattle.veritysetup.specs.declared.fault.Fault.{Fault}
-use Rattle.veritysetup.specs.declared.runs.trusted_tree.TrustedTree.{TrustedTree}
-use Rattle.veritysetup.specs.declared.runs.verify.Verified.{Verified}
-use Rattle.veritysetup.specs.declared.runs.verify_input.VerifyInput.{VerifyInput}
-use Rattle.veritysetup.specs.declared.runs.verify_input.VerifyInput.TheVariants.{Stored, Given}
+use Rattle.veritysetup.specs.{Options.Settings.read_root, Runs.{Verify.{Refuses, RefusesStored}, Verified.{Trusts, Describes}}}
+use Rattle.veritysetup.specs.declared.{fault.Fault.Fault, runs.{trusted_tree.TrustedTree.TrustedTree, verify.Verified.Verified}}
+use Rattle.veritysetup.specs.declared.runs.verify_input.VerifyInput.{VerifyInput, TheVariants.{Stored, Given}}
 
 -- what the tree is compared by for an input, or why it is not
 abbrev pub IsTrustedTree : VerifyInput → List ℕ → Result TrustedTree Fault → Type 0

@@ -1,20 +1,17 @@
 -- The messages of veritysetup, one line each, this project's own. Level, block and child are counted from 0.
 use Rattle.std.specs.Prelude.{ℕ, List, [], ◌∷◌, codes}
-use Rattle.std.specs.Fmt.{decimal}
-use Rattle.std.specs.List.{concat}
-use Rattle.hex.specs.Hex.{encode_lower}
-use Rattle.verity_pass.specs.declared.building.BuildFault.{BuildFault}
-use Rattle.verity_pass.specs.declared.building.BuildFault.TheVariants as build
-use Rattle.verity_pass.specs.declared.comparing.CompareFault.{CompareFault}
-use Rattle.verity_pass.specs.declared.comparing.CompareFault.TheVariants as compare
-use Rattle.verity_pass.specs.declared.part.Part.{Part}
+use Rattle.{std.specs.{Fmt.decimal, List.concat}, hex.specs.Hex.encode_lower}
+use Rattle.verity_pass.specs.declared.{building.BuildFault.BuildFault, comparing.CompareFault.CompareFault, part.Part.Part}
 use Rattle.verity_pass.specs.declared.part.Part.TheVariants.{Missing, Child, Spare}
 use Rattle.verity_format.specs.declared.super_fault.SuperFault.{SuperFault}
+use Rattle.veritysetup.specs.declared.options.option_fault.{OptionName.{OptionName, TheVariants.HashOffset}, OptionFault.OptionFault}
+use Rattle.veritysetup.specs.declared.options.option_fault.OptionName.TheVariants.{Format, DataBlockSize, HashBlockSize, DataBlocks}
+use Rattle.veritysetup.specs.declared.options.option_fault.OptionFault.TheVariants.{BadNumber, UnknownHash, BadHashType, BadBlockSize}
+use Rattle.veritysetup.specs.declared.options.option_fault.OptionFault.TheVariants.{BadSalt, BadUuid, BadHashOffset, NoData, TooLarge}
+use Rattle.veritysetup.specs.declared.options.option_fault.OptionFault.TheVariants.{Overlap, BadRoot}
+use Rattle.verity_pass.specs.declared.building.BuildFault.TheVariants as build
+use Rattle.verity_pass.specs.declared.comparing.CompareFault.TheVariants as compare
 use Rattle.verity_format.specs.declared.super_fault.SuperFault.TheVariants as super
-use Rattle.veritysetup.specs.declared.options.option_fault.OptionName.{OptionName}
-use Rattle.veritysetup.specs.declared.options.option_fault.OptionName.TheVariants.{Format, DataBlockSize, HashBlockSize, DataBlocks, HashOffset}
-use Rattle.veritysetup.specs.declared.options.option_fault.OptionFault.{OptionFault}
-use Rattle.veritysetup.specs.declared.options.option_fault.OptionFault.TheVariants.{BadNumber, UnknownHash, BadHashType, BadBlockSize, BadSalt, BadUuid, BadHashOffset, NoData, TooLarge, Overlap, BadRoot}
 
 -- an option's long name
 abbrev pub option_name : OptionName → List ℕ

@@ -1,10 +1,8 @@
 -- What the steps of the report add to its text.
 -- For the private functions; not needed to read a public contract.
 use Rattle.std.specs.Prelude.{ℕ, List, ◌++◌, codes}
-use Rattle.std.specs.Fmt.{decimal}
-use Rattle.verity_format.specs.Superblocks.{SuperblockFields}
+use Rattle.{std.specs.Fmt.decimal, verity_format.specs.Superblocks.SuperblockFields, veritysetup.specs.Texts.Reports.report_line}
 use Rattle.verity_plan.specs.Settings.{type_number, TreeSettingsFields}
-use Rattle.veritysetup.specs.Texts.Reports.{report_line}
 
 -- a text, and the lines on the device, with this text of the UUID
 abbrev pub with_device : List ℕ → List ℕ → SuperblockFields → List ℕ

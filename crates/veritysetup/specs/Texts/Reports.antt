@@ -1,12 +1,7 @@
 -- The report of format and dump, modelled on what veritysetup(8) prints.
 use Rattle.std.specs.Prelude.{ℕ, ◌-◌, List, [], ◌∷◌, ◌++◌, length, replicate, codes, Option, Some, None}
-use Rattle.std.specs.Fmt.{decimal}
-use Rattle.std.specs.List.{concat}
-use Rattle.hex.specs.Hex.{encode_lower}
-use Rattle.uuid.specs.Text.{hyphenated_text, lower}
-use Rattle.verity_format.specs.Superblocks.{SuperblockFields}
-use Rattle.verity_plan.specs.Settings.{type_number}
-use Rattle.verity_hash.specs.Hashing.{name_of}
+use Rattle.{std.specs.{Fmt.decimal, List.concat}, hex.specs.Hex.encode_lower, uuid.specs.Text.{hyphenated_text, lower}}
+use Rattle.{verity_format.specs.Superblocks.SuperblockFields, verity_plan.specs.Settings.type_number, verity_hash.specs.Hashing.name_of}
 
 -- a line: the label filled with spaces to 17 bytes, a tab, the value
 abbrev pub report_line : List ℕ → List ℕ → List ℕ

@@ -2,9 +2,7 @@
 use Rattle.std.specs.Prelude.{◌≡◌, Option, Some, None, List, [], ◌∷◌, ◌++◌, codes, map, option_map, string_bytes}
 use Rattle.clap.specs.Words.{App, Row, Text, first_of}
 use Rattle.command_line.specs.Arguments.{flag_of, flag_rule, named_app, option_rule, program_app, word_rule}
-use Rattle.veritysetup.specs.declared.words.command_name.CommandName.{CommandName}
-use Rattle.veritysetup.specs.declared.words.command_name.CommandName.TheVariants.{Format, Dump, Verify}
-use Rattle.veritysetup.specs.declared.words.line.Line.{Line}
+use Rattle.veritysetup.specs.declared.words.{command_name.CommandName.{CommandName, TheVariants.{Format, Dump, Verify}}, line.Line.Line}
 
 -- `format [options] DATA HASH`
 unfoldable pub format_app : App

@@ -1,7 +1,6 @@
 -- The words beside the options of veritysetup's commands (veritysetup(8)).
 use Rattle.std.specs.Prelude.{ℕ, List, [], ◌∷◌, Option, Some, None}
-use Rattle.veritysetup.specs.declared.words.command_name.CommandName.{CommandName}
-use Rattle.veritysetup.specs.declared.words.command_name.CommandName.TheVariants.{Verify}
+use Rattle.veritysetup.specs.declared.words.command_name.CommandName.{CommandName, TheVariants.Verify}
 
 -- the third and last of some words
 abbrev pub third_word : List (List ℕ) → Option (List ℕ)

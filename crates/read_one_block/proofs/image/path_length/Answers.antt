@@ -1,6 +1,4 @@
-use Rattle.std.proofs.Common.{ℕ, ◌*◌, arith, ap}
-use Rattle.verity_plan.specs.PlanCounts.{level_count_of}
-use Rattle.verity_plan.proofs.PlanLemmas.{store_few}
+use Rattle.{std.proofs.Common.{ℕ, ◌*◌, arith, ap}, verity_plan.{specs.PlanCounts.level_count_of, proofs.PlanLemmas.store_few}}
 use Rattle.read_one_block.proofs.image.path_length.Goals as goal
 
 pub overflow_mul-result : goal.overflow_mul-result

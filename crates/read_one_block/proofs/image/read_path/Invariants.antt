@@ -1,6 +1,4 @@
-use Rattle.std.proofs.Common.{◌≡◌, ◌<◌, ℕ, ◌/◌, ◌^◌}
-use Rattle.std.specs.Fork.{slice_chunk}
-use Rattle.verity_plan.specs.Settings.{fan}
+use Rattle.{std.{proofs.Common.{◌≡◌, ◌<◌, ℕ, ◌/◌, ◌^◌}, specs.Fork.slice_chunk}, verity_plan.specs.Settings.fan}
 use Rattle.read_one_block.specs.Reading.{stored_above}
 use Rattle.read_one_block.proofs.image.read_path.Given as goal
 

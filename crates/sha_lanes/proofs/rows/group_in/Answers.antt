@@ -1,6 +1,4 @@
-use Rattle.std.proofs.Common.{[], ◌++◌, refl}
-use Rattle.std.proofs.lemmas.List.{append-nil, append_assoc, length-append}
-use Rattle.std.proofs.lemmas.Option.{IfSome_then}
+use Rattle.std.proofs.{Common.{[], ◌++◌, refl}, lemmas.{List.{append-nil, append_assoc, length-append}, Option.IfSome_then}}
 use Rattle.sha_lanes.proofs.Groups.{group_of_piece}
 use Rattle.sha_lanes.proofs.rows.group_in.Goals as goal
 

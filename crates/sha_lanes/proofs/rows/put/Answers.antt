@@ -1,9 +1,7 @@
-use Rattle.std.proofs.Common.{◌≡◌, ℕ, ◌+◌, ◌-◌, ◌<◌, ◌≤◌, length, ap, sym, ◌∙◌, arith, rules}
-use borrow.Rule.Slice.PartMut.{put_mid}
+use Rattle.std.proofs.{Common.{◌≡◌, ℕ, ◌+◌, ◌-◌, ◌<◌, ◌≤◌, length, ap, sym, ◌∙◌, arith, rules}, lemmas.Slice.overwrites}
 use Rattle.std.specs.List.{between}
-use Rattle.std.proofs.lemmas.Slice.{overwrites}
-use Rattle.sha_lanes.proofs.Pieces.{piece_put}
-use Rattle.sha_lanes.proofs.rows.put.Goals.{then-from-at, else-from-at, then-piece_end-row_end, else-piece_end-row_end}
+use Rattle.sha_lanes.proofs.{Pieces.piece_put, rows.put.Goals.{then-from-at, else-from-at, then-piece_end-row_end, else-piece_end-row_end}}
+use borrow.Rule.Slice.PartMut.{put_mid}
 use Rattle.sha_lanes.proofs.rows.put.Goals as goal
 
 pub returns-then-first-last-clause-joined : goal.returns-then-first-last-clause-joined

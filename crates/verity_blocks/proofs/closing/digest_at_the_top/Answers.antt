@@ -1,12 +1,7 @@
 -- The digest of the block that is left.
 use Rattle.std.proofs.Common.{◌≡◌, ℕ, ◌+◌, ◌-◌, ◌*◌, ◌<◌, List, length, take, drop, arith, refl, subst, sym, ◌∙◌, ap}
-use Rattle.std.specs.Fork.{slice_chunk}
-use Rattle.verity_plan.specs.PlanCounts.{level_count_of}
-use Rattle.verity_plan.specs.Settings.{hash}
-use Rattle.verity_plan.proofs.CountLemmas.{mul_le}
-use Rattle.verity_blocks.specs.Steps.Feeding.{Stands}
-use Rattle.verity_blocks.proofs.ClosingSteps.Asking.{left-root, top-left}
-use Rattle.verity_blocks.proofs.ClosingSteps.Climbing.{nothing-out}
+use Rattle.{std.specs.Fork.slice_chunk, verity_plan.{specs.{PlanCounts.level_count_of, Settings.hash}, proofs.CountLemmas.mul_le}}
+use Rattle.verity_blocks.{specs.Steps.Feeding.Stands, proofs.ClosingSteps.{Asking.{left-root, top-left}, Climbing.nothing-out}}
 use Rattle.verity_blocks.proofs.OpenBlocks.OpenBlock.{hash-by, length-hash}
 use Rattle.verity_blocks.proofs.closing.digest_at_the_top.Goals as goal
 

@@ -1,9 +1,5 @@
-use Rattle.std.proofs.Common.{length, ◌*◌, ◌≡◌, ℕ, ◌≤◌, List}
-use Rattle.verity_plan.specs.PlanCounts.{level_count_of}
-use Rattle.verity_plan.specs.Settings.{digest_len}
-use Rattle.verity_blocks.specs.Levels.{data_blocks}
-use Rattle.verity_blocks.specs.Steps.Feeding.{HasFed}
-use Rattle.verity_blocks.specs.Steps.OpenBlocks.{IsAsking, carry_state}
+use Rattle.{std.proofs.Common.{length, ◌*◌, ◌≡◌, ℕ, ◌≤◌, List}, verity_plan.specs.{PlanCounts.level_count_of, Settings.digest_len}}
+use Rattle.verity_blocks.specs.{Levels.data_blocks, Steps.{Feeding.HasFed, OpenBlocks.{IsAsking, carry_state}}}
 use Rattle.verity_blocks.proofs.closing.digest_below.Given as goal
 
 -- the digest that comes to the level with the last data block; below it the open blocks are those before the last window's

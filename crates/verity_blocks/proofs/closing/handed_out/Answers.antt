@@ -1,7 +1,4 @@
-use Rattle.std.proofs.Common.{arith, ◌-◌, ◌≤◌}
-use Rattle.std.proofs.Math.Nat.{mul-le-mul}
-use Rattle.verity_plan.proofs.FanLemmas.{hash_most}
-use Rattle.verity_plan.proofs.PlanLemmas.{levels_few}
+use Rattle.{std.proofs.{Common.{arith, ◌-◌, ◌≤◌}, Math.Nat.mul-le-mul}, verity_plan.proofs.{FanLemmas.hash_most, PlanLemmas.levels_few}}
 use Rattle.verity_blocks.proofs.closing.handed_out.Goals as goal
 
 pub overflow_mul-result : goal.overflow_mul-result

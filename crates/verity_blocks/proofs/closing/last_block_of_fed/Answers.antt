@@ -1,20 +1,11 @@
 -- The last hash block of a level, above the digest that comes to it.
 use Rattle.std.proofs.Common.{◌≡◌, ℕ, ◌+◌, ◌-◌, ◌*◌, ◌/◌, ◌^◌, ◌≤◌, List, length, arith, ap, sym, ◌∙◌}
-use Rattle.verity_plan.specs.Settings.{fan}
-use Rattle.verity_plan.specs.PlanCounts.{level_count_of}
-use Rattle.verity_plan.proofs.PlanLemmas.{blocks-some, levels_few}
-use Rattle.verity_blocks.specs.ClosingOrder.{blocks_before}
-use Rattle.verity_blocks.specs.Levels.{data_blocks}
-use Rattle.verity_blocks.specs.Steps.Feeding.{HasFed, last_window, windows_before}
-use Rattle.verity_blocks.specs.Steps.OpenBlocks.{IsAsking, carry_state}
-use Rattle.verity_blocks.specs.TreeOnDevice.{tree_block}
-use Rattle.verity_blocks.specs.Windows.{window_blocks}
-use Rattle.verity_blocks.proofs.ClosingSteps.Asking.{HasFed-asked, above-level}
-use Rattle.verity_blocks.proofs.Windows.LastByte.{last-block}
-use Rattle.verity_blocks.proofs.Levels.CutBlocks.{length-cut}
-use Rattle.verity_blocks.proofs.Windows.RowsOfWindow.{window-beside}
+use Rattle.verity_plan.{specs.{Settings.fan, PlanCounts.level_count_of}, proofs.PlanLemmas.{blocks-some, levels_few}}
+use Rattle.verity_blocks.specs.{ClosingOrder.blocks_before, Levels.data_blocks, Steps.Feeding.{HasFed, last_window, windows_before}}
+use Rattle.verity_blocks.specs.{Steps.OpenBlocks.{IsAsking, carry_state}, TreeOnDevice.tree_block, Windows.window_blocks}
+use Rattle.verity_blocks.proofs.{ClosingSteps.Asking.{HasFed-asked, above-level}, Windows.{LastByte.last-block, RowsOfWindow.window-beside}}
+use Rattle.verity_blocks.proofs.{Levels.CutBlocks.length-cut, closing.last_block_of_fed.Goals.{After-block_with, After-digest_below-digest}}
 use Rattle.verity_blocks.proofs.closing.last_block_of_fed.Goals as goal
-use Rattle.verity_blocks.proofs.closing.last_block_of_fed.Goals.{After-block_with, After-digest_below-digest}
 
 -- the last data block, as the code counts it
 last-is : (c : After-digest_below-digest) → c.blocks-last.result - 1 ≡ c.args.plan.now.blocks - 1

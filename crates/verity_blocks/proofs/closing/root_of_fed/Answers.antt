@@ -1,6 +1,5 @@
 -- The digest goes up through all levels.
-use Rattle.std.proofs.Common.{◌-◌, arith, ◌∙◌}
-use Rattle.verity_plan.proofs.PlanLemmas.{blocks-some}
+use Rattle.{std.proofs.Common.{◌-◌, arith, ◌∙◌}, verity_plan.proofs.PlanLemmas.blocks-some}
 use Rattle.verity_blocks.proofs.ClosingSteps.Asking.{HasFed-asked, above-top, root-above}
 use Rattle.verity_blocks.proofs.closing.root_of_fed.Goals as goal
 

@@ -1,5 +1,4 @@
-use Rattle.verity_plan.proofs.FanLemmas.{fan-some}
-use Rattle.verity_blocks.proofs.Order.ClosedStays.{closed-prefix}
+use Rattle.{verity_plan.proofs.FanLemmas.fan-some, verity_blocks.proofs.Order.ClosedStays.closed-prefix}
 use Rattle.verity_blocks.proofs.laws.closed_blocks_stay.Goals as goal
 
 pub returns : goal.returns

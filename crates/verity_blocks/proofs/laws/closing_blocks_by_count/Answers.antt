@@ -1,6 +1,4 @@
-use Rattle.std.proofs.Common.{arith, ◌+◌, ◌^◌}
-use Rattle.std.proofs.Math.Nat.{one-le-pow}
-use Rattle.verity_blocks.proofs.OpenBlocks.Reached.{div_ceil-last}
+use Rattle.{std.proofs.{Common.{arith, ◌+◌, ◌^◌}, Math.Nat.one-le-pow}, verity_blocks.proofs.OpenBlocks.Reached.div_ceil-last}
 use Rattle.verity_blocks.proofs.laws.closing_blocks_by_count.Goals as goal
 
 pub returns : goal.returns

@@ -1,6 +1,4 @@
-use Rattle.std.proofs.Common.{◌+◌}
-use Rattle.verity_plan.proofs.FanLemmas.{fan-some}
-use Rattle.verity_blocks.proofs.Levels.LevelCounts.{length-blocks_up}
+use Rattle.{std.proofs.Common.◌+◌, verity_plan.proofs.FanLemmas.fan-some, verity_blocks.proofs.Levels.LevelCounts.length-blocks_up}
 use Rattle.verity_blocks.proofs.laws.levels_have_sizes.Goals as goal
 
 pub returns : goal.returns

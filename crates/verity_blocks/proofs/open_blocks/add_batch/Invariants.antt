@@ -1,7 +1,5 @@
-use Rattle.std.proofs.Common.{◌≡◌, ℕ, ◌+◌, ◌*◌, ◌≤◌, List, length}
-use Rattle.verity_plan.specs.PlanCounts.{level_count_of}
-use Rattle.verity_blocks.specs.Steps.Batches.{HoldsDataBlocks}
-use Rattle.verity_blocks.specs.Steps.OpenBlocks.{HasOpenBlocks}
+use Rattle.{std.proofs.Common.{◌≡◌, ℕ, ◌+◌, ◌*◌, ◌≤◌, List, length}, verity_plan.specs.PlanCounts.level_count_of}
+use Rattle.verity_blocks.specs.Steps.{Batches.HoldsDataBlocks, OpenBlocks.HasOpenBlocks}
 use Rattle.verity_blocks.proofs.open_blocks.add_batch.Given as goal
 
 -- the digests before this one have come to the open blocks

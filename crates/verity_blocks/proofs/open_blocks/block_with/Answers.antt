@@ -1,9 +1,7 @@
-use Rattle.std.proofs.Common.{◌≡◌, length, arith, ap, ◌∙◌, rules}
-use Rattle.verity_plan.specs.Settings.{hash, slot_width}
-use Rattle.verity_blocks.proofs.ClosedLevel.{IsAsking-up, block-with_last, cleared-is}
-use Rattle.verity_blocks.proofs.OpenBlocks.DigestsInTurn.{slot-room}
-use Rattle.verity_blocks.proofs.open_blocks.block_with.Goals as goal
+use Rattle.{std.proofs.Common.{◌≡◌, length, arith, ap, ◌∙◌, rules}, verity_plan.specs.Settings.{hash, slot_width}}
+use Rattle.verity_blocks.proofs.{ClosedLevel.{IsAsking-up, block-with_last, cleared-is}, OpenBlocks.DigestsInTurn.slot-room}
 use Rattle.verity_blocks.proofs.open_blocks.block_with.Goals.{After-fill}
+use Rattle.verity_blocks.proofs.open_blocks.block_with.Goals as goal
 
 pub put_digest-requires : goal.put_digest-requires
 put_digest-requires c =

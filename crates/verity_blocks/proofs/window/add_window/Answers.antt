@@ -1,6 +1,5 @@
 use Rattle.std.proofs.Common.{◌≡◌, ℕ, ◌+◌, ◌*◌, ap, arith, subst, sym}
-use Rattle.verity_blocks.specs.Steps.Feeding.{IsWindowPlace}
-use Rattle.verity_blocks.proofs.Windows.BytesToWindow.{HasCome-window, window-end, window-filled}
+use Rattle.verity_blocks.{specs.Steps.Feeding.IsWindowPlace, proofs.Windows.BytesToWindow.{HasCome-window, window-end, window-filled}}
 use Rattle.verity_blocks.proofs.window.add_window.Goals as goal
 
 pub slice_bounds-fill-start : goal.slice_bounds-fill-start

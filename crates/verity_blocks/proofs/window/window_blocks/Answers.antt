@@ -1,11 +1,7 @@
-use Rattle.std.proofs.Common.{◌≡◌, ℕ, ◌/◌, ◌^◌, ◌≤◌, arith, ap, min, sym, ◌∙◌}
-use Rattle.std.proofs.Math.Nat.{div-mul-le_self, mul-le-mul_right}
-use Rattle.verity_plan.proofs.FanLemmas.{block_power, some_data}
-use Rattle.verity_plan.proofs.FitLemmas.{power_of_two-exponent}
-use Rattle.verity_plan.specs.Settings.{fan, most_block}
-use Rattle.verity_blocks.specs.Windows.{window_blocks}
+use Rattle.std.proofs.{Common.{◌≡◌, ℕ, ◌/◌, ◌^◌, ◌≤◌, arith, ap, min, sym, ◌∙◌}, Math.Nat.{div-mul-le_self, mul-le-mul_right}}
+use Rattle.verity_plan.{proofs.{FanLemmas.{block_power, some_data}, FitLemmas.power_of_two-exponent}, specs.Settings.{fan, most_block}}
+use Rattle.verity_blocks.{specs.Windows.window_blocks, proofs.window.window_blocks.Goals.After-min-2}
 use Rattle.verity_blocks.proofs.window.window_blocks.Goals as goal
-use Rattle.verity_blocks.proofs.window.window_blocks.Goals.{After-min-2}
 
 -- a data block's size is a power of two, by whose exponent the largest block is shifted
 blocks : (c : After-min-2) → c.min-2.result ≡ window_blocks c.args.settings.now

@@ -1,12 +1,8 @@
-use Rattle.std.proofs.Common.{List, ℕ, length, take, arith, refl, sym, ◌∙◌, ◌≡◌, ◌++◌, ◌≤◌, ◌*◌}
-use Rattle.std.proofs.lemmas.List.{append-nil}
-use Rattle.verity_blocks.specs.Steps.Feeding.{FeedsOn}
-use Rattle.verity_blocks.proofs.ClosingSteps.Advancing.{length-fed}
-use Rattle.verity_blocks.proofs.ClosingSteps.Climbing.{most_closed-le}
-use Rattle.verity_builders.specs.Steps.FedTrees.{IsFedTo}
-use Rattle.verity_builders.proofs.Trees.TreeMemory.{IsFedTo-joined, IsFedTo-parted, last-in}
-use Rattle.verity_builders.proofs.fed_tree.feed_piece.Goals as goal
+use Rattle.std.proofs.{Common.{List, ℕ, length, take, arith, refl, sym, ◌∙◌, ◌≡◌, ◌++◌, ◌≤◌, ◌*◌}, lemmas.List.append-nil}
+use Rattle.verity_blocks.{specs.Steps.Feeding.FeedsOn, proofs.ClosingSteps.{Advancing.length-fed, Climbing.most_closed-le}}
+use Rattle.verity_builders.{specs.Steps.FedTrees.IsFedTo, proofs.Trees.TreeMemory.{IsFedTo-joined, IsFedTo-parted, last-in}}
 use Rattle.verity_builders.proofs.fed_tree.feed_piece.Goals.{After-feed_until_closed-taken}
+use Rattle.verity_builders.proofs.fed_tree.feed_piece.Goals as goal
 
 -- no more bytes were fed than there are
 most : (c : After-feed_until_closed-taken) → c.feed_until_closed-taken.new.progress.fed ≤ c.args.own.now.wanted

@@ -1,5 +1,4 @@
-use Rattle.std.proofs.Common.{arith, ◌<◌, ◌≤◌}
-use Rattle.verity_builders.proofs.Trees.TreeMemory.{last-in}
+use Rattle.{std.proofs.Common.{arith, ◌<◌, ◌≤◌}, verity_builders.proofs.Trees.TreeMemory.last-in}
 use Rattle.verity_builders.proofs.fed_tree.last_handed_out.Goals as goal
 
 pub handed_out-requires-clause-below : goal.handed_out-requires-clause-below

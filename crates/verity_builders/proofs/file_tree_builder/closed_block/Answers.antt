@@ -1,7 +1,5 @@
-use Rattle.std.proofs.Common.{arith, ◌+◌, ◌≡◌}
-use Rattle.verity_plan.proofs.PlanLemmas.{levels_most}
-use Rattle.verity_blocks.specs.ClosingOrder.{blocks_before}
-use Rattle.verity_blocks.proofs.Windows.LastByte.{last-below}
+use Rattle.{std.proofs.Common.{arith, ◌+◌, ◌≡◌}, verity_plan.proofs.PlanLemmas.levels_most}
+use Rattle.verity_blocks.{specs.ClosingOrder.blocks_before, proofs.Windows.LastByte.last-below}
 use Rattle.verity_builders.proofs.file_tree_builder.closed_block.Goals as goal
 
 pub handed_out-block-requires-clause-below : goal.handed_out-block-requires-clause-below

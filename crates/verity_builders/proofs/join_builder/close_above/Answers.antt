@@ -1,13 +1,10 @@
 use Rattle.std.proofs.Common.{ap, arith, sym, ◌<◌}
-use Rattle.verity_plan.specs.Plans.{level_count}
-use Rattle.verity_plan.specs.PlanCounts.{level_count_of}
-use Rattle.verity_plan.specs.Settings.{fan}
-use Rattle.verity_plan.proofs.FanLemmas.{fan-some, fan-two}
+use Rattle.verity_plan.{specs.{Plans.level_count, PlanCounts.level_count_of, Settings.fan}, proofs.FanLemmas.{fan-some, fan-two}}
 use Rattle.verity_builders.proofs.Joins.JoinDigests.{ClosesAbove-adds, ClosesAbove-none, ClosesAbove-past, JoinStands-closed}
-use Rattle.verity_builders.proofs.join_builder.close_above.Goals as goal
 use Rattle.verity_builders.proofs.join_builder.close_above.Goals.{then-level-eq0-via-then-level-eq0}
 use Rattle.verity_builders.proofs.join_builder.close_above.Goals.{then-level-eq0-via-else-level-eq0+then-level-levels}
 use Rattle.verity_builders.proofs.join_builder.close_above.Goals.{then-level-eq0-via-else-level-eq0+else-level-levels+then-progress-eq0}
+use Rattle.verity_builders.proofs.join_builder.close_above.Goals as goal
 
 pub returns-then-level-eq0-clause-stands : goal.returns-then-level-eq0-clause-stands
 returns-then-level-eq0-clause-stands c = λ blocks last many h more.

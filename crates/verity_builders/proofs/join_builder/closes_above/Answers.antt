@@ -1,8 +1,7 @@
-use Rattle.std.proofs.Common.{arith}
-use Rattle.verity_builders.proofs.join_builder.closes_above.Goals as goal
-use Rattle.verity_builders.proofs.join_builder.closes_above.Goals.{then-level-eq0-via-then-level-eq0}
+use Rattle.{std.proofs.Common.arith, verity_builders.proofs.join_builder.closes_above.Goals.then-level-eq0-via-then-level-eq0}
 use Rattle.verity_builders.proofs.join_builder.closes_above.Goals.{then-level-eq0-via-else-level-eq0+then-level-levels}
 use Rattle.verity_builders.proofs.join_builder.closes_above.Goals.{then-level-eq0-via-else-level-eq0+else-level-levels+then-progress-eq0}
+use Rattle.verity_builders.proofs.join_builder.closes_above.Goals as goal
 
 pub returns-then-level-eq0-clause-last : goal.returns-then-level-eq0-clause-last
 returns-then-level-eq0-clause-last c = λ _ all came. elim c.then-level-eq0.branch [

@@ -1,19 +1,14 @@
 -- Digests are taken until a hash block closes.
-use Rattle.std.proofs.Common.{List, length, take, ◌≡◌, ℕ, ◌+◌, ◌/◌, ◌<◌, ◌≤◌, ap, arith, refl, ◌%◌}
-use Rattle.std.proofs.Common.{inl, inr}
-use Rattle.std.proofs.lemmas.Bool.{cases_lt}
-use Rattle.std.proofs.lemmas.Bool.Decides.{nat_tests}
-use Rattle.std.proofs.Math.Nat.{zero-div, zero-mul}
-use Rattle.verity_plan.specs.PlanCounts.{level_count_of}
-use Rattle.verity_plan.proofs.FanLemmas.{digest_len_of-pos, fan-some}
-use Rattle.verity_plan.proofs.PlanLemmas.{blocks-some}
+use Rattle.std.proofs.{Common.{List, length, take, ◌≡◌, ℕ, ◌+◌, ◌/◌, ◌<◌, ◌≤◌, ap, arith, refl, ◌%◌, inl, inr}, lemmas.Bool.cases_lt}
+use Rattle.std.proofs.{lemmas.Bool.Decides.nat_tests, Math.Nat.{zero-div, zero-mul}}
+use Rattle.verity_plan.{specs.PlanCounts.level_count_of, proofs.{FanLemmas.{digest_len_of-pos, fan-some}, PlanLemmas.blocks-some}}
 use Rattle.verity_builders.specs.Steps.Parts.{HasDigests, JoinStands}
 use Rattle.verity_builders.proofs.Joins.JoinDigests.{HasDigests-front, JoinsOn-closes, JoinsOn-full, JoinsOn-none, JoinsSoFar}
 use Rattle.verity_builders.proofs.Joins.JoinDigests.{JoinsSoFar-first, JoinsSoFar-more, next-taken, run-more, run-room}
-use Rattle.verity_builders.proofs.join_builder.join_until_closed.Goals as goal
 use Rattle.verity_builders.proofs.join_builder.join_until_closed.Goals.{After-loop-taken, After-take_digest-closes}
 use Rattle.verity_builders.proofs.join_builder.join_until_closed.Goals.{else-is_empty-via-then-is_empty+else-not-closes_above}
 use Rattle.verity_builders.proofs.join_builder.join_until_closed.Goals.{else-is_empty-via-else-is_empty}
+use Rattle.verity_builders.proofs.join_builder.join_until_closed.Goals as goal
 
 pub returns-then-close_above-clause-stands : goal.returns-then-close_above-clause-stands
 returns-then-close_above-clause-stands c = λ blocks many h _.

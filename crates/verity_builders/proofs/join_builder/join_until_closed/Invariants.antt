@@ -1,7 +1,5 @@
-use Rattle.std.proofs.Common.{length, ◌-◌, ◌≡◌, ℕ, ◌+◌, ◌*◌, ◌/◌, ◌<◌, ◌≤◌, List, take}
-use Rattle.verity_plan.specs.PlanCounts.{level_count_of}
-use Rattle.verity_builders.specs.Steps.Parts.{HasDigests, JoinStands}
-use Rattle.verity_builders.proofs.Joins.JoinDigests.{JoinsSoFar}
+use Rattle.{std.proofs.Common.{length, ◌-◌, ◌≡◌, ℕ, ◌+◌, ◌*◌, ◌/◌, ◌<◌, ◌≤◌, List, take}, verity_plan.specs.PlanCounts.level_count_of}
+use Rattle.verity_builders.{specs.Steps.Parts.{HasDigests, JoinStands}, proofs.Joins.JoinDigests.JoinsSoFar}
 use Rattle.verity_builders.proofs.join_builder.join_until_closed.Given as goal
 
 -- no hash block has closed with the digests that were taken

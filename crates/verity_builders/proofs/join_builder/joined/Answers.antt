@@ -1,12 +1,6 @@
-use Rattle.std.proofs.Common.{arith, ℕ, ◌+◌, ◌-◌, ◌/◌, ◌<◌, ◌≡◌, ◌≤◌, ◌^◌, ap}
-use Rattle.std.proofs.Math.Nat.{mul-le-mul, one-le-pow}
-use Rattle.std.specs.Int.{div_ceil}
-use Rattle.verity_plan.specs.Settings.{fan}
-use Rattle.verity_plan.specs.PlanCounts.{count_under}
-use Rattle.verity_plan.proofs.FanLemmas.{fan-some, hash_most}
-use Rattle.verity_plan.proofs.IndexLemmas.{quotient-below}
-use Rattle.verity_plan.proofs.PlanLemmas.{levels_few}
-use Rattle.verity_builders.proofs.Joins.PlanOfJoin.{size-above}
+use Rattle.std.{proofs.{Common.{arith, ℕ, ◌+◌, ◌-◌, ◌/◌, ◌<◌, ◌≡◌, ◌≤◌, ◌^◌, ap}, Math.Nat.{mul-le-mul, one-le-pow}}, specs.Int.div_ceil}
+use Rattle.verity_plan.{specs.{Settings.fan, PlanCounts.count_under}, proofs.{FanLemmas.{fan-some, hash_most}, IndexLemmas.quotient-below}}
+use Rattle.{verity_plan.proofs.PlanLemmas.levels_few, verity_builders.proofs.Joins.PlanOfJoin.size-above}
 use Rattle.verity_builders.proofs.join_builder.joined.Goals as goal
 
 pub overflow_add-result : goal.overflow_add-result

@@ -1,11 +1,7 @@
-use Rattle.std.proofs.Common.{◌∙◌, ◌≡◌, ap}
-use Rattle.std.specs.Prelude.{Ok}
-use Rattle.verity_plan.specs.Plans.{PlanFields}
-use Rattle.verity_plan.specs.PlanCounts.{level_count_of}
-use Rattle.verity_builders.specs.Steps.Parts.{plan_of_join}
-use Rattle.verity_builders.proofs.Joins.PlanOfJoin.{IsPlan-join, levels-of_join, plan-found}
-use Rattle.verity_builders.proofs.join_builder.joining_plan.Goals as goal
+use Rattle.{std.{proofs.Common.{◌∙◌, ◌≡◌, ap}, specs.Prelude.Ok}, verity_plan.specs.{Plans.PlanFields, PlanCounts.level_count_of}}
+use Rattle.verity_builders.{specs.Steps.Parts.plan_of_join, proofs.Joins.PlanOfJoin.{IsPlan-join, levels-of_join, plan-found}}
 use Rattle.verity_builders.proofs.join_builder.joining_plan.Goals.{After-for_blocks}
+use Rattle.verity_builders.proofs.join_builder.joining_plan.Goals as goal
 
 -- the plan is found
 found : (c : After-for_blocks) → c.for_blocks.result ≡ Ok (plan_of_join c.args.plan.now c.args.level)

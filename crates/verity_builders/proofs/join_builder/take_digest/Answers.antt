@@ -1,14 +1,9 @@
-use Rattle.std.proofs.Common.{List, ap, arith, length, sym, ◌∙◌, ◌≡◌, ℕ}
-use Rattle.verity_plan.specs.Plans.{level_count}
-use Rattle.verity_plan.specs.PlanCounts.{level_count_of}
-use Rattle.verity_plan.specs.Settings.{fan}
-use Rattle.verity_plan.proofs.FanLemmas.{fan-two}
-use Rattle.verity_plan.proofs.PlanLemmas.{blocks_few}
-use Rattle.verity_blocks.specs.Steps.OpenBlocks.{Adds, HasOpenBlocks, level_digest}
+use Rattle.{std.proofs.Common.{List, ap, arith, length, sym, ◌∙◌, ◌≡◌, ℕ}, verity_plan.proofs.PlanLemmas.blocks_few}
+use Rattle.verity_plan.{specs.{Plans.level_count, PlanCounts.level_count_of, Settings.fan}, proofs.FanLemmas.fan-two}
+use Rattle.verity_blocks.{specs.Steps.OpenBlocks.{Adds, HasOpenBlocks, level_digest}, proofs.OpenBlocks.DigestsInTurn.IsCarrying-first}
 use Rattle.verity_builders.proofs.Joins.JoinDigests.{JoinStands-alone, JoinStands-full, JoinStands-room}
-use Rattle.verity_blocks.proofs.OpenBlocks.DigestsInTurn.{IsCarrying-first}
-use Rattle.verity_builders.proofs.join_builder.take_digest.Goals as goal
 use Rattle.verity_builders.proofs.join_builder.take_digest.Goals.{After-add_digest}
+use Rattle.verity_builders.proofs.join_builder.take_digest.Goals as goal
 
 pub overflow_add-progress : goal.overflow_add-progress
 overflow_add-progress c = omega (arith, c.requires.below, blocks_few c.args.own.now c.requires.planned)

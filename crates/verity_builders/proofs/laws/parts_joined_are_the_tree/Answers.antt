@@ -1,5 +1,4 @@
-use Rattle.verity_builders.proofs.Parts.WrittenInAnyOrder.{any-order}
-use Rattle.verity_builders.proofs.Parts.PartsInOrder.{parts-once}
+use Rattle.verity_builders.proofs.Parts.{WrittenInAnyOrder.any-order, PartsInOrder.parts-once}
 use Rattle.verity_builders.proofs.laws.parts_joined_are_the_tree.Goals as goal
 
 pub returns-clause-once : goal.returns-clause-once

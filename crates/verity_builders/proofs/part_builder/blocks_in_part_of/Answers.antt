@@ -1,9 +1,5 @@
-use Rattle.std.proofs.Common.{arith, ap, suc, ◌≤◌, ◌<◌, ◌*◌, ◌^◌, ℕ}
-use Rattle.std.proofs.Math.Nat.{pow-le-pow_right, pow-suc}
-use Rattle.std.specs.Int.{div_ceil}
-use Rattle.verity_plan.specs.Settings.{fan}
-use Rattle.verity_plan.proofs.CountLemmas.{le-div_ceil}
-use Rattle.verity_plan.proofs.FanLemmas.{fan-some}
+use Rattle.std.{proofs.{Common.{arith, ap, suc, ◌≤◌, ◌<◌, ◌*◌, ◌^◌, ℕ}, Math.Nat.{pow-le-pow_right, pow-suc}}, specs.Int.div_ceil}
+use Rattle.verity_plan.{specs.Settings.fan, proofs.{CountLemmas.le-div_ceil, FanLemmas.fan-some}}
 use Rattle.verity_builders.proofs.part_builder.blocks_in_part_of.Goals as goal
 
 pub returns-then-count-div_ceil : goal.returns-then-count-div_ceil

@@ -1,5 +1,4 @@
-use Rattle.std.proofs.Common.{◌≡◌, ◌≤◌, ◌^◌}
-use Rattle.verity_plan.specs.Settings.{fan}
+use Rattle.{std.proofs.Common.{◌≡◌, ◌≤◌, ◌^◌}, verity_plan.specs.Settings.fan}
 use Rattle.verity_builders.proofs.part_builder.blocks_in_part_of.Given as goal
 
 -- the level's power of the fan-out, while it is at most all data blocks

@@ -1,5 +1,4 @@
-use Rattle.std.proofs.Common.{ap, []}
-use Rattle.verity_builders.specs.declared.file_builder.FileBuilder.{FileBuilder}
+use Rattle.{std.proofs.Common.{ap, []}, verity_builders.specs.declared.file_builder.FileBuilder.FileBuilder}
 use Rattle.verity_c_api.proofs.BuildingLemmas.{IsFedFileTo-of}
 use Rattle.verity_c.proofs.file_building.fsverity_build_begin.Goals as goal
 

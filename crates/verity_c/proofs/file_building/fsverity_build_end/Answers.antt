@@ -1,6 +1,4 @@
-use Rattle.std.proofs.Common.{refl}
-use Rattle.verity_c_api.specs.Building.{file_builder_of}
-use Rattle.verity_c_api.proofs.BuildingLemmas.{IsFedFileTo-at, IsFedFileTo-of}
+use Rattle.{std.proofs.Common.refl, verity_c_api.{specs.Building.file_builder_of, proofs.BuildingLemmas.{IsFedFileTo-at, IsFedFileTo-of}}}
 use Rattle.verity_c.proofs.file_building.fsverity_build_end.Goals as goal
 
 pub returns-in-Ok-end-clause-stays : goal.returns-in-Ok-end-clause-stays

@@ -1,5 +1,4 @@
-use Rattle.std.proofs.Common.{◌++◌}
-use Rattle.verity_c_api.proofs.BuildingLemmas.{IsFedFileTo-at, IsFedFileTo-of}
+use Rattle.{std.proofs.Common.◌++◌, verity_c_api.proofs.BuildingLemmas.{IsFedFileTo-at, IsFedFileTo-of}}
 use Rattle.verity_c.proofs.file_building.fsverity_build_feed.Goals as goal
 
 pub returns-in-Ok-feed-clause-fed : goal.returns-in-Ok-feed-clause-fed

@@ -1,5 +1,4 @@
-use Rattle.std.proofs.Common.{◌∙◌, ap, length, sym}
-use Rattle.verity_hash.proofs.HashLemmas.{length-hash_of}
+use Rattle.{std.proofs.Common.{◌∙◌, ap, length, sym}, verity_hash.proofs.HashLemmas.length-hash_of}
 use Rattle.verity_c.proofs.files.set_file_digest.Goals as goal
 
 pub set_digest-requires : goal.set_digest-requires

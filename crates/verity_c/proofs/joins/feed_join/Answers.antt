@@ -1,8 +1,6 @@
-use Rattle.std.proofs.Common.{ap, ◌∙◌}
-use Rattle.verity_builders.specs.declared.join_builder.JoinBuilder.{JoinBuilder}
+use Rattle.{std.proofs.Common.{ap, ◌∙◌}, verity_builders.specs.declared.join_builder.JoinBuilder.JoinBuilder}
 use Rattle.verity_c_api.proofs.AnswerLemmas.{taken_is}
-use Rattle.verity_c.proofs.JoinLemmas.{AreNextDigests-at, HandsOutOfJoin-by, IsJoinedTo-at, IsJoinedTo-of}
-use Rattle.verity_c.proofs.JoinLemmas.{TakesDigests-by}
+use Rattle.verity_c.proofs.JoinLemmas.{AreNextDigests-at, HandsOutOfJoin-by, IsJoinedTo-at, IsJoinedTo-of, TakesDigests-by}
 use Rattle.verity_c.proofs.joins.feed_join.Goals as goal
 
 pub returns-in-Ok-feed-clause-takes : goal.returns-in-Ok-feed-clause-takes

@@ -1,5 +1,4 @@
-use Rattle.std.proofs.Common.{◌∙◌, sym}
-use Rattle.verity_c_api.proofs.AnswerLemmas.{match-said, says-of}
+use Rattle.{std.proofs.Common.{◌∙◌, sym}, verity_c_api.proofs.AnswerLemmas.{match-said, says-of}}
 use Rattle.verity_c.proofs.JoinLemmas.{IsJoinedTo-at, last_of_join-at}
 use Rattle.verity_c.proofs.joins.set_last_of_join.Goals as goal
 

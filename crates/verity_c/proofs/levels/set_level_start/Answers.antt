@@ -1,5 +1,4 @@
-use Rattle.std.proofs.Common.{arith}
-use Rattle.verity_c.proofs.LevelLemmas.{HasBlock-first}
+use Rattle.{std.proofs.Common.arith, verity_c.proofs.LevelLemmas.HasBlock-first}
 use Rattle.verity_c.proofs.levels.set_level_start.Goals as goal
 
 pub start-requires : goal.start-requires

@@ -1,5 +1,4 @@
-use Rattle.std.proofs.Common.{ap, ◌∙◌}
-use Rattle.verity_builders.specs.declared.part_builder.PartBuilder.{PartBuilder}
+use Rattle.{std.proofs.Common.{ap, ◌∙◌}, verity_builders.specs.declared.part_builder.PartBuilder.PartBuilder}
 use Rattle.verity_c_api.proofs.AnswerLemmas.{taken_is}
 use Rattle.verity_c.proofs.PartLemmas.{HandsOutOfPart-by, IsFedPartTo-at, IsFedPartTo-of, TakesPartPiece-by}
 use Rattle.verity_c.proofs.parts.feed_part.Goals as goal

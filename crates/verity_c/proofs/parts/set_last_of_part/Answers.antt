@@ -1,5 +1,4 @@
-use Rattle.verity_c_api.proofs.AnswerLemmas.{match-said, says-of}
-use Rattle.verity_c.proofs.PartLemmas.{IsFedPartTo-at}
+use Rattle.{verity_c_api.proofs.AnswerLemmas.{match-said, says-of}, verity_c.proofs.PartLemmas.IsFedPartTo-at}
 use Rattle.verity_c.proofs.parts.set_last_of_part.Goals as goal
 
 pub returns-clause-block : goal.returns-clause-block

@@ -1,5 +1,4 @@
-use Rattle.std.proofs.Common.{Option, sym, subst}
-use Rattle.verity_format.specs.declared.super_fault.SuperFault.{SuperFault}
+use Rattle.{std.proofs.Common.{Option, sym, subst}, verity_format.specs.declared.super_fault.SuperFault.SuperFault}
 use Rattle.verity_c_api.specs.Answers.{ReadsParameters}
 use Rattle.verity_c.proofs.superblock.verity_read_superblock.Goals as goal
 

@@ -1,5 +1,4 @@
-use Rattle.std.proofs.Common.{◌≡◌, None, sym}
-use Rattle.verity_format.specs.CheckedSuperblocks.{superblock_of}
+use Rattle.{std.proofs.Common.{◌≡◌, None, sym}, verity_format.specs.CheckedSuperblocks.superblock_of}
 use Rattle.verity_c_api.proofs.SuperblockLemmas.{some_superblock}
 use Rattle.verity_c.proofs.superblock.verity_write_superblock.Goals as goal
 

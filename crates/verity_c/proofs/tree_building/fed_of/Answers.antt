@@ -1,5 +1,4 @@
-use Rattle.std.proofs.Common.{arith}
-use Rattle.verity_plan.proofs.PlanLemmas.{some_hash}
+use Rattle.{std.proofs.Common.arith, verity_plan.proofs.PlanLemmas.some_hash}
 use Rattle.verity_c.proofs.tree_building.fed_of.Goals as goal
 
 pub returns-in-Some-clause-some : goal.returns-in-Some-clause-some

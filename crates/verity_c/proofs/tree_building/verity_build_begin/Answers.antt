@@ -1,5 +1,4 @@
-use Rattle.std.proofs.Common.{[], ap}
-use Rattle.verity_builders.specs.declared.tree_builder.TreeBuilder.{TreeBuilder}
+use Rattle.{std.proofs.Common.{[], ap}, verity_builders.specs.declared.tree_builder.TreeBuilder.TreeBuilder}
 use Rattle.verity_c_api.proofs.BuildingLemmas.{IsFedTo-of}
 use Rattle.verity_c.proofs.tree_building.verity_build_begin.Goals as goal
 

@@ -1,6 +1,4 @@
-use Rattle.std.proofs.Common.{refl}
-use Rattle.verity_c_api.specs.Building.{builder_of}
-use Rattle.verity_c_api.proofs.BuildingLemmas.{IsFedTo-at, IsFedTo-of}
+use Rattle.{std.proofs.Common.refl, verity_c_api.{specs.Building.builder_of, proofs.BuildingLemmas.{IsFedTo-at, IsFedTo-of}}}
 use Rattle.verity_c.proofs.tree_building.verity_build_end.Goals as goal
 
 pub returns-in-Ok-end-clause-stays : goal.returns-in-Ok-end-clause-stays

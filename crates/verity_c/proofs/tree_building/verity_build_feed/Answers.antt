@@ -1,5 +1,4 @@
-use Rattle.verity_c_api.proofs.AnswerLemmas.{taken_is}
-use Rattle.verity_c_api.proofs.BuildingLemmas.{HandsOut-by, IsFedTo-at, IsFedTo-of, TakesPiece-by}
+use Rattle.verity_c_api.proofs.{AnswerLemmas.taken_is, BuildingLemmas.{HandsOut-by, IsFedTo-at, IsFedTo-of, TakesPiece-by}}
 use Rattle.verity_c.proofs.tree_building.verity_build_feed.Goals as goal
 
 pub returns-in-Ok-feed-clause-takes : goal.returns-in-Ok-feed-clause-takes

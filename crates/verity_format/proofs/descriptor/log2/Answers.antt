@@ -1,5 +1,4 @@
-use Rattle.std.proofs.Common.{sym}
-use Rattle.verity_plan.proofs.FanLemmas.{log2-is}
+use Rattle.{std.proofs.Common.sym, verity_plan.proofs.FanLemmas.log2-is}
 use Rattle.verity_format.proofs.descriptor.log2.Goals as goal
 
 pub returns : goal.returns

@@ -1,6 +1,5 @@
 -- Each field is appended to those before it.
-use Rattle.std.proofs.Common.{refl}
-use Rattle.verity_format.specs.Descriptors.{descriptor_bytes}
+use Rattle.{std.proofs.Common.refl, verity_format.specs.Descriptors.descriptor_bytes}
 use Rattle.verity_format.proofs.descriptor.write_descriptor.Goals as goal
 
 pub returns : goal.returns

@@ -1,7 +1,6 @@
 -- The bytes say the superblock and no other, and fail no test.
 use Rattle.std.proofs.Common.{◌≡◌, ◌↔◌, ℕ, List, Some, None, Result, Ok, Err, IfOk, IfErr, sym, ap, subst}
-use Rattle.verity_format.specs.Superblocks.{SuperblockFields, IsSuperblock}
-use Rattle.verity_format.specs.CheckedSuperblocks.{superblock_fault}
+use Rattle.verity_format.specs.{Superblocks.{SuperblockFields, IsSuperblock}, CheckedSuperblocks.superblock_fault}
 use Rattle.verity_format.specs.declared.super_fault.SuperFault.{SuperFault}
 use Rattle.verity_format.proofs.laws.through_bytes.Goals as goal
 

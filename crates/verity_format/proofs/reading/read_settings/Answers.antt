@@ -1,6 +1,5 @@
 -- The parts are those that the bytes say.
-use Rattle.std.proofs.Common.{◌≡◌, ◌+◌, ◌-◌, rules, arith, ap, sym, ◌∙◌, take, drop, length, length-drop}
-use Rattle.std.proofs.lemmas.List.{length-take-le}
+use Rattle.std.proofs.{Common.{◌≡◌, ◌+◌, ◌-◌, rules, arith, ap, sym, ◌∙◌, take, drop, length, length-drop}, lemmas.List.length-take-le}
 use Rattle.verity_format.proofs.reading.read_settings.Goals as goal
 
 pub returns-clause-value : goal.returns-clause-value

@@ -1,6 +1,5 @@
 -- Parts within the limits make settings.
-use Rattle.std.proofs.Common.{refl, sym, ◌∙◌}
-use Rattle.verity_format.proofs.ReadLemmas.{IsValid-verity, verity_settings-ok}
+use Rattle.{std.proofs.Common.{refl, sym, ◌∙◌}, verity_format.proofs.ReadLemmas.{IsValid-verity, verity_settings-ok}}
 use Rattle.verity_format.proofs.reading.settings_within_limits.Goals as goal
 
 pub unwrap-requires : goal.unwrap-requires

@@ -1,12 +1,7 @@
 -- The salt is padded with zeros to its input block.
-use Rattle.std.proofs.Common.{ℕ, ◌<◌, List, [], ◌++◌, length, ap, arith}
-use Rattle.std.proofs.Common.{◌≤◌, ◌∙◌, drop, replicate, take}
-use Rattle.std.proofs.lemmas.Grind.{common_steps}
-use Rattle.std.proofs.lemmas.List.{append-nil}
-use Rattle.std.specs.Fork.{slice_chunk}
-use Rattle.std.specs.Int.{next_multiple_of}
-use Rattle.verity_hash.specs.Hashing.{hash_of, input_block_of, with_zeros}
-use Rattle.verity_hash.proofs.WithZeros.{with_zeros-front, input_block_of-bounds}
+use Rattle.std.proofs.{Common.{ℕ, ◌<◌, List, [], ◌++◌, length, ap, arith, ◌≤◌, ◌∙◌, drop, replicate, take}, lemmas.Grind.common_steps}
+use Rattle.std.{proofs.lemmas.List.append-nil, specs.{Fork.slice_chunk, Int.next_multiple_of}}
+use Rattle.verity_hash.{specs.Hashing.{hash_of, input_block_of, with_zeros}, proofs.WithZeros.{with_zeros-front, input_block_of-bounds}}
 use Rattle.verity_hash.proofs.rows.after_padded_salt.Goals as goal
 
 pub returns : goal.returns

@@ -1,7 +1,5 @@
-use Rattle.std.proofs.Common.{◌≢◌, ℕ, List, [], ap, ◌∙◌, arith, below_more}
-use Rattle.std.proofs.lemmas.List.{get_or-set_same, get_or-set_other, length-set}
-use Rattle.verity_hash.specs.Hashing.{salted_hash}
-use Rattle.verity_hash.proofs.RowLemmas.{rows-within}
+use Rattle.std.proofs.{Common.{◌≢◌, ℕ, List, [], ap, ◌∙◌, arith, below_more}, lemmas.List.{get_or-set_same, get_or-set_other, length-set}}
+use Rattle.verity_hash.{specs.Hashing.salted_hash, proofs.RowLemmas.rows-within}
 use Rattle.verity_hash.proofs.rows.one_by_one.Goals as goal
 
 pub row-requires : goal.row-requires

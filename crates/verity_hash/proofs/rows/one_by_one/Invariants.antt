@@ -1,6 +1,4 @@
-use Rattle.std.proofs.Common.{◌≡◌, ℕ, ◌<◌, [], length, slice_index_or}
-use Rattle.std.specs.Fork.{slice_chunk}
-use Rattle.verity_hash.specs.Hashing.{salted_hash}
+use Rattle.{std.{proofs.Common.{◌≡◌, ℕ, ◌<◌, [], length, slice_index_or}, specs.Fork.slice_chunk}, verity_hash.specs.Hashing.salted_hash}
 use Rattle.verity_hash.proofs.rows.one_by_one.Given as goal
 
 abbrev pub invariant-loop-r : goal.invariant-loop-r

@@ -1,6 +1,4 @@
-use Rattle.std.proofs.Common.{arith}
-use Rattle.std.proofs.lemmas.Grind.{common_steps}
-use Rattle.verity_io.proofs.FilledBuffers.{consumes_more}
+use Rattle.{std.proofs.{Common.arith, lemmas.Grind.common_steps}, verity_io.proofs.FilledBuffers.consumes_more}
 use Rattle.verity_io.proofs.file_device.fill.Goals as goal
 
 pub loop-end-preserved : goal.loop-end-preserved

@@ -1,5 +1,4 @@
-use Rattle.std.proofs.Common.{length, ◌-◌, ◌≤◌, take}
-use Rattle.std.specs.Io.KnownBytes.{Consumes}
+use Rattle.std.{proofs.Common.{length, ◌-◌, ◌≤◌, take}, specs.Io.KnownBytes.Consumes}
 use Rattle.verity_io.proofs.file_device.fill.Given as goal
 
 abbrev pub invariant-loop-end : goal.invariant-loop-end

@@ -1,5 +1,4 @@
-use Rattle.std.proofs.Common.{◌∙◌}
-use Rattle.verity_io.proofs.Padded.{put_padded}
+use Rattle.{std.proofs.Common.◌∙◌, verity_io.proofs.Padded.put_padded}
 use Rattle.verity_io.proofs.memory_device.put_at.Goals as goal
 
 pub returns-in-Ok-clause-ok : goal.returns-in-Ok-clause-ok

@@ -1,8 +1,5 @@
 -- What one more write took follows what was taken before.
-use Rattle.std.proofs.Common.{arith}
-use Rattle.std.proofs.lemmas.List.{take_rest}
-use Rattle.std.proofs.lemmas.Grind.{common_steps}
-use Rattle.verity_io.proofs.KnownLemmas.{appends_more}
+use Rattle.{std.proofs.{Common.arith, lemmas.{List.take_rest, Grind.common_steps}}, verity_io.proofs.KnownLemmas.appends_more}
 use Rattle.verity_io.proofs.putting.put_all.Goals as goal
 
 pub loop-start-preserved : goal.loop-start-preserved

@@ -1,6 +1,4 @@
-use Rattle.std.proofs.Common.{arith}
-use Rattle.std.proofs.lemmas.Grind.{common_steps}
-use Rattle.verity_io.proofs.FilledBuffers.{filled_more}
+use Rattle.{std.proofs.{Common.arith, lemmas.Grind.common_steps}, verity_io.proofs.FilledBuffers.filled_more}
 use Rattle.verity_io.proofs.source.read_block.Goals as goal
 
 pub loop-end-preserved : goal.loop-end-preserved

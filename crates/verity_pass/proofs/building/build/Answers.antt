@@ -1,7 +1,5 @@
-use Rattle.std.proofs.Common.{refl}
-use Rattle.verity_pass.specs.Steps.OnClosed.{KeepsAny, StopsWriting, WritesAll, is_unwritten, effects}
-use Rattle.verity_blocks.specs.TreeWriting.{device_with}
-use Rattle.verity_pass.proofs.Passes.OnePass.{stops-next}
+use Rattle.{std.proofs.Common.refl, verity_blocks.specs.TreeWriting.device_with}
+use Rattle.verity_pass.{specs.Steps.OnClosed.{KeepsAny, StopsWriting, WritesAll, is_unwritten, effects}, proofs.Passes.OnePass.stops-next}
 use Rattle.verity_pass.proofs.building.build.Goals as goal
 
 pub returns-in-Ok-clause-stands : goal.returns-in-Ok-clause-stands

@@ -1,6 +1,4 @@
-use Rattle.std.proofs.Common.{sym, ◌∙◌, refl}
-use Rattle.std.proofs.lemmas.List.Elements.{All-nil}
-use Rattle.std.proofs.lemmas.Slice.Eq.{bytes_eq-Decides}
+use Rattle.std.proofs.{Common.{sym, ◌∙◌, refl}, lemmas.{List.Elements.All-nil, Slice.Eq.bytes_eq-Decides}}
 use Rattle.verity_pass.proofs.Passes.ComparedPass.{comes-to, judges-differs, judges-right, judges-root, judges-short}
 use Rattle.verity_pass.proofs.PathSteps.{bytes_eq-false}
 use Rattle.verity_pass.proofs.comparing.compare.Goals as goal

@@ -1,9 +1,5 @@
-use Rattle.std.proofs.Common.{◌≡◌, ℕ, suc, ◌+◌, arith, subst}
-use Rattle.std.specs.Prelude.{Ok}
-use Rattle.verity_blocks.specs.Levels.{data_blocks}
-use Rattle.verity_pass.specs.Links.{checked_link}
-use Rattle.verity_pass.specs.Paths.{true_chain}
-use Rattle.verity_pass.proofs.Paths.AcceptedLinks.{link-true, top-true}
+use Rattle.{std.{proofs.Common.{◌≡◌, ℕ, suc, ◌+◌, arith, subst}, specs.Prelude.Ok}, verity_blocks.specs.Levels.data_blocks}
+use Rattle.verity_pass.{specs.{Links.checked_link, Paths.true_chain}, proofs.Paths.AcceptedLinks.{link-true, top-true}}
 use Rattle.verity_pass.proofs.laws.accepted_links_are_true.Goals as goal
 
 pub returns-clause-link : goal.returns-clause-link

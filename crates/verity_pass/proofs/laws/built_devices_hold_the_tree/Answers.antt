@@ -1,5 +1,4 @@
-use Rattle.verity_pass.proofs.BesideTree.{tree-byte}
-use Rattle.verity_pass.proofs.PutTree.{put-holds}
+use Rattle.verity_pass.proofs.{BesideTree.tree-byte, PutTree.put-holds}
 use Rattle.verity_pass.proofs.laws.built_devices_hold_the_tree.Goals as goal
 
 pub returns-clause-holds : goal.returns-clause-holds

@@ -1,6 +1,4 @@
-use Rattle.verity_blocks.specs.Levels.{data_blocks, root}
-use Rattle.verity_pass.proofs.BoundData.{data-bound}
-use Rattle.verity_pass.proofs.HeldTree.{right-holds}
+use Rattle.{verity_blocks.specs.Levels.{data_blocks, root}, verity_pass.proofs.{BoundData.data-bound, HeldTree.right-holds}}
 use Rattle.verity_pass.proofs.laws.right_data_are_true.Goals as goal
 
 pub returns : goal.returns

@@ -1,8 +1,5 @@
-use Rattle.std.proofs.Common.{sym, ◌∙◌}
-use Rattle.verity_plan.proofs.FanLemmas.{fan-two}
-use Rattle.verity_pass.proofs.BoundData.{blocks-bound, data-bound}
-use Rattle.verity_blocks.proofs.Levels.CutBlocks.{length-cut}
-use Rattle.verity_blocks.specs.Levels.{data_blocks}
+use Rattle.{std.proofs.Common.{sym, ◌∙◌}, verity_plan.proofs.FanLemmas.fan-two, verity_pass.proofs.BoundData.{blocks-bound, data-bound}}
+use Rattle.verity_blocks.{proofs.Levels.CutBlocks.length-cut, specs.Levels.data_blocks}
 use Rattle.verity_pass.proofs.laws.root_hashes_bind_the_data.Goals as goal
 
 pub returns-clause-blocks : goal.returns-clause-blocks

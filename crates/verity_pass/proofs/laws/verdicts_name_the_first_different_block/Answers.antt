@@ -1,5 +1,4 @@
-use Rattle.verity_pass.specs.FirstDifferentBlock.{names_data_block}
-use Rattle.verity_pass.proofs.Devices.FirstDifferentBlock.{named, names-child, one-named}
+use Rattle.verity_pass.{specs.FirstDifferentBlock.names_data_block, proofs.Devices.FirstDifferentBlock.{named, names-child, one-named}}
 use Rattle.verity_pass.proofs.laws.verdicts_name_the_first_different_block.Goals as goal
 
 pub returns-clause-several : goal.returns-clause-several

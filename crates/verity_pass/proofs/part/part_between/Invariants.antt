@@ -1,7 +1,4 @@
-use Rattle.std.proofs.Common.{◌≡◌, ◌<◌, ℕ, false}
-use Rattle.std.specs.Prelude.{not}
-use Rattle.std.specs.Str.{bytes_eq}
-use Rattle.verity_pass.specs.Verdicts.{digest_in}
+use Rattle.{std.{proofs.Common.{◌≡◌, ◌<◌, ℕ, false}, specs.{Prelude.not, Str.bytes_eq}}, verity_pass.specs.Verdicts.digest_in}
 use Rattle.verity_pass.proofs.part.part_between.Given as goal
 
 -- no digest before this slot differs

@@ -1,6 +1,4 @@
-use Rattle.std.proofs.Common.{◌≡◌, ◌<◌, ℕ, ◌/◌, ◌^◌}
-use Rattle.verity_pass.specs.Paths.{HoldsAt, chain}
-use Rattle.verity_plan.specs.Settings.{fan, hash}
+use Rattle.{std.proofs.Common.{◌≡◌, ◌<◌, ℕ, ◌/◌, ◌^◌}, verity_pass.specs.Paths.{HoldsAt, chain}, verity_plan.specs.Settings.{fan, hash}}
 use Rattle.verity_pass.proofs.path.check_block.Given as goal
 
 -- the path holds at the levels below this one

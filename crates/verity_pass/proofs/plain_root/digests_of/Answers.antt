@@ -1,14 +1,8 @@
 -- Each block gives its digest, and the blocks end where the bytes do.
-use Rattle.std.proofs.Common.{◌≡◌, ℕ, ◌+◌, ◌-◌, ◌*◌, ◌≤◌, List, ◌++◌, drop, map, min, replicate, take, arith, sym, ◌∙◌}
-use Rattle.std.proofs.Common.{ap, length}
-use Rattle.std.proofs.lemmas.List.{length-take, take_all}
-use Rattle.std.specs.List.{range_with_len}
-use Rattle.std.specs.Int.{div_ceil}
-use Rattle.verity_plan.specs.Settings.{hash}
-use Rattle.verity_blocks.specs.Levels.{block_at}
-use Rattle.verity_plan.proofs.CountLemmas.{mul-lt_div_ceil}
-use Rattle.verity_plan.proofs.FanLemmas.{some_data}
-use Rattle.verity_blocks.specs.Steps.PlainRoots.{digest_of_block}
+use Rattle.std.proofs.Common.{◌≡◌, ℕ, ◌+◌, ◌-◌, ◌*◌, ◌≤◌, List, ◌++◌, drop, map, min, replicate, take, arith, sym, ◌∙◌, ap, length}
+use Rattle.std.{proofs.lemmas.List.{length-take, take_all}, specs.{List.range_with_len, Int.div_ceil}}
+use Rattle.verity_plan.{specs.Settings.hash, proofs.{CountLemmas.mul-lt_div_ceil, FanLemmas.some_data}}
+use Rattle.verity_blocks.specs.{Levels.block_at, Steps.PlainRoots.digest_of_block}
 use Rattle.verity_blocks.proofs.Levels.CutBlocks.{map-hash-cut, mapped_more, take-run}
 use Rattle.verity_pass.proofs.plain_root.digests_of.Goals as goal
 

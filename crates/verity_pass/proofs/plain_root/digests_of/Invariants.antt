@@ -1,6 +1,4 @@
-use Rattle.std.proofs.Common.{◌≡◌, map, length}
-use Rattle.std.specs.List.{range_with_len}
-use Rattle.verity_blocks.specs.Steps.PlainRoots.{digest_of_block}
+use Rattle.{std.{proofs.Common.{◌≡◌, map, length}, specs.List.range_with_len}, verity_blocks.specs.Steps.PlainRoots.digest_of_block}
 use Rattle.verity_pass.proofs.plain_root.digests_of.Given as goal
 
 -- the digests of the blocks so far

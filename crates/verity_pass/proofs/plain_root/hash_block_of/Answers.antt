@@ -1,6 +1,5 @@
 -- Each digest adds its slot, and zeros fill the block.
-use Rattle.std.proofs.Common.{arith}
-use Rattle.verity_pass.proofs.Slots.{slot_pushed, slots-filled, slots-more}
+use Rattle.{std.proofs.Common.arith, verity_pass.proofs.Slots.{slot_pushed, slots-filled, slots-more}}
 use Rattle.verity_pass.proofs.plain_root.hash_block_of.Goals as goal
 
 pub loop-digest-preserved : goal.loop-digest-preserved

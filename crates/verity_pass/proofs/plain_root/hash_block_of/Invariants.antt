@@ -1,6 +1,4 @@
-use Rattle.std.proofs.Common.{◌≡◌, take}
-use Rattle.std.specs.List.{flat_map}
-use Rattle.verity_plan.specs.Settings.{slot}
+use Rattle.{std.{proofs.Common.{◌≡◌, take}, specs.List.flat_map}, verity_plan.specs.Settings.slot}
 use Rattle.verity_pass.proofs.plain_root.hash_block_of.Given as goal
 
 -- the slots of the digests so far

@@ -1,11 +1,7 @@
 -- Each run gives its digest, and the runs end where the digests do.
-use Rattle.std.proofs.Common.{◌≡◌, ℕ, map, arith, sym, ◌∙◌, ap, length}
-use Rattle.std.specs.List.{range_with_len}
-use Rattle.std.specs.Int.{div_ceil}
-use Rattle.verity_plan.proofs.CountLemmas.{mul-lt_div_ceil}
-use Rattle.verity_plan.specs.Settings.{fan}
-use Rattle.verity_blocks.specs.Steps.PlainRoots.{digest_of_group}
-use Rattle.verity_blocks.proofs.Levels.CutBlocks.{map-hash-pack, mapped_more, take-run}
+use Rattle.std.{proofs.Common.{◌≡◌, ℕ, map, arith, sym, ◌∙◌, ap, length}, specs.{List.range_with_len, Int.div_ceil}}
+use Rattle.verity_plan.{proofs.CountLemmas.mul-lt_div_ceil, specs.Settings.fan}
+use Rattle.verity_blocks.{specs.Steps.PlainRoots.digest_of_group, proofs.Levels.CutBlocks.{map-hash-pack, mapped_more, take-run}}
 use Rattle.verity_pass.proofs.plain_root.level_up.Goals as goal
 
 pub loop-j-preserved : goal.loop-j-preserved

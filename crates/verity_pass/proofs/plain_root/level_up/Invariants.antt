@@ -1,6 +1,4 @@
-use Rattle.std.proofs.Common.{◌≡◌, map}
-use Rattle.std.specs.List.{range_with_len}
-use Rattle.verity_blocks.specs.Steps.PlainRoots.{digest_of_group}
+use Rattle.{std.{proofs.Common.{◌≡◌, map}, specs.List.range_with_len}, verity_blocks.specs.Steps.PlainRoots.digest_of_group}
 use Rattle.verity_pass.proofs.plain_root.level_up.Given as goal
 
 -- the digests of the runs so far

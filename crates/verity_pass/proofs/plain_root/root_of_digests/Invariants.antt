@@ -1,5 +1,4 @@
-use Rattle.std.proofs.Common.{◌≡◌, ◌<◌, vec_len}
-use Rattle.verity_blocks.specs.Steps.PlainRoots.{root_of_digests}
+use Rattle.{std.proofs.Common.{◌≡◌, ◌<◌, vec_len}, verity_blocks.specs.Steps.PlainRoots.root_of_digests}
 use Rattle.verity_pass.proofs.plain_root.root_of_digests.Given as goal
 
 -- some digests are left, with the same root above them

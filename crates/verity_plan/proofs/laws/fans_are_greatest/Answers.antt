@@ -1,5 +1,4 @@
-use Rattle.verity_plan.proofs.FanLemmas.{fan-greatest, fan-power}
-use Rattle.verity_plan.proofs.FitLemmas.{fan-digests}
+use Rattle.verity_plan.proofs.{FanLemmas.{fan-greatest, fan-power}, FitLemmas.fan-digests}
 use Rattle.verity_plan.proofs.laws.fans_are_greatest.Goals as goal
 
 pub returns : goal.returns

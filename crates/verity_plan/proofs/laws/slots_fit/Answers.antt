@@ -1,5 +1,4 @@
-use Rattle.verity_plan.proofs.FanLemmas.{fan-two}
-use Rattle.verity_plan.proofs.FitLemmas.{fan-fits}
+use Rattle.verity_plan.proofs.{FanLemmas.fan-two, FitLemmas.fan-fits}
 use Rattle.verity_plan.proofs.laws.slots_fit.Goals as goal
 
 pub returns : goal.returns

@@ -1,6 +1,4 @@
-use Rattle.std.proofs.Common.{◌≡◌, ◌+◌, ◌-◌, ◌*◌, ◌^◌, ◌≤◌, ◌<◌}
-use Rattle.std.specs.Int.{div_ceil}
-use Rattle.verity_plan.specs.Plans.{level_count, blocks_from}
+use Rattle.{std.{proofs.Common.{◌≡◌, ◌+◌, ◌-◌, ◌*◌, ◌^◌, ◌≤◌, ◌<◌}, specs.Int.div_ceil}, verity_plan.specs.Plans.{level_count, blocks_from}}
 use Rattle.verity_plan.proofs.plan.levels_above.Given as goal
 
 -- the levels so far are counted, and those that are left stand above them

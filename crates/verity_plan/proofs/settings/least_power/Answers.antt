@@ -1,5 +1,4 @@
-use Rattle.std.proofs.Common.{◌<◌, ◌≤◌, ◌/◌, max, ℕ, sym, ◌∙◌, subst}
-use Rattle.verity_plan.proofs.FanLemmas.{least_power-is}
+use Rattle.{std.proofs.Common.{◌<◌, ◌≤◌, ◌/◌, max, ℕ, sym, ◌∙◌, subst}, verity_plan.proofs.FanLemmas.least_power-is}
 use Rattle.verity_plan.proofs.settings.least_power.Goals as goal
 
 pub returns-clause-value : goal.returns-clause-value

@@ -1,9 +1,6 @@
-use Rattle.std.proofs.Common.{subst, sym}
-use Rattle.verity_blocks.specs.Levels.{data_blocks}
-use Rattle.veritysetup.specs.Runs.Format.{formatted_device}
-use Rattle.veritysetup.specs.Runs.Formatted.{IsFormattedDevice}
-use Rattle.veritysetup.proofs.FormattedLemmas.{formatted-same, written-formatted}
-use Rattle.veritysetup.proofs.SettingsLemmas.{AreValid}
+use Rattle.{std.proofs.Common.{subst, sym}, verity_blocks.specs.Levels.data_blocks}
+use Rattle.veritysetup.specs.Runs.{Format.formatted_device, Formatted.IsFormattedDevice}
+use Rattle.veritysetup.proofs.{FormattedLemmas.{formatted-same, written-formatted}, SettingsLemmas.AreValid}
 use Rattle.veritysetup.proofs.laws.formatted_devices_are_written.Goals as goal
 
 pub returns : goal.returns

@@ -1,6 +1,4 @@
-use Rattle.std.proofs.Common.{sym, ◌∙◌}
-use Rattle.verity_pass.proofs.BoundData.{data-bound}
-use Rattle.veritysetup.proofs.InputLemmas.{trusted-planned}
+use Rattle.{std.proofs.Common.{sym, ◌∙◌}, verity_pass.proofs.BoundData.data-bound, veritysetup.proofs.InputLemmas.trusted-planned}
 use Rattle.veritysetup.proofs.laws.verified_data_are_true.Goals as goal
 
 pub returns : goal.returns

@@ -1,8 +1,7 @@
-use Rattle.std.proofs.Common.{arith, refl, ◌≡◌, ◌∙◌, ◌<◌, ◌&&◌, ℕ, Bool, true, false, cond, Some, None, Result, Ok, Err, nat_lt, lt-ltb, ltb-true}
-use Rattle.std.specs.Result.{OkIff, result_ok}
-use Rattle.std.proofs.lemmas.Str.Parse.{parse_plain}
-use Rattle.command_line.proofs.options.numbers.read_number.Goals as goal
+use Rattle.std.proofs.Common.{arith, refl, ◌≡◌, ◌∙◌, ◌<◌, ◌&&◌, ℕ, Bool, true, false, cond, Some, None, Result, Ok, Err, nat_lt, lt-ltb}
+use Rattle.std.{proofs.{Common.ltb-true, lemmas.Str.Parse.parse_plain}, specs.Result.{OkIff, result_ok}}
 use Rattle.command_line.proofs.Numerals.{numerals}
+use Rattle.command_line.proofs.options.numbers.read_number.Goals as goal
 
 -- a value if three tests hold, and otherwise none
 by_tests : {E : Type 0} (a : Bool) (n m k : ℕ) (r : Result ℕ E) → OkIff r ((a ≡ true) × (0 < n) × (m < k)) m

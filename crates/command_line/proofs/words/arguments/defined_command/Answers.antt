@@ -1,6 +1,4 @@
-use Rattle.clap.specs.Words.{new_app}
-use Rattle.command_line.specs.Arguments.{rule_of_argument}
-use Rattle.command_line.proofs.Chains.{arg_added}
+use Rattle.{clap.specs.Words.new_app, command_line.{specs.Arguments.rule_of_argument, proofs.Chains.arg_added}}
 use Rattle.command_line.proofs.words.arguments.defined_command.Goals as goal
 
 pub loop-argument-preserved : goal.loop-argument-preserved

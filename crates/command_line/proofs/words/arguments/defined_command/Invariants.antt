@@ -1,5 +1,4 @@
-use Rattle.std.proofs.Common.{map, take}
-use Rattle.command_line.specs.Arguments.{Defines, named_app, rule_of_argument}
+use Rattle.{std.proofs.Common.{map, take}, command_line.specs.Arguments.{Defines, named_app, rule_of_argument}}
 use Rattle.command_line.proofs.words.arguments.defined_command.Given as goal
 
 abbrev pub invariant-loop-argument : goal.invariant-loop-argument

@@ -1,8 +1,5 @@
-use Rattle.std.proofs.Common.{◌∙◌, ap, map, refl, take}
-use Rattle.clap.specs.Words.{App, new_app}
-use Rattle.clap.specs.Simple.{on_top}
-use Rattle.command_line.specs.Arguments.{command_app, without_help}
-use Rattle.command_line.proofs.Chains.{command_added, required_stays}
+use Rattle.{std.proofs.Common.{◌∙◌, ap, map, refl, take}, clap.specs.{Words.{App, new_app}, Simple.on_top}}
+use Rattle.command_line.{specs.Arguments.{command_app, without_help}, proofs.Chains.{command_added, required_stays}}
 use Rattle.command_line.proofs.words.arguments.program.Goals as goal
 
 pub loop-command-preserved : goal.loop-command-preserved

@@ -1,5 +1,4 @@
-use Rattle.std.proofs.Common.{map, take}
-use Rattle.command_line.specs.Arguments.{Defines, command_app, program_app}
+use Rattle.{std.proofs.Common.{map, take}, command_line.specs.Arguments.{Defines, command_app, program_app}}
 use Rattle.command_line.proofs.words.arguments.program.Given as goal
 
 abbrev pub invariant-loop-command : goal.invariant-loop-command

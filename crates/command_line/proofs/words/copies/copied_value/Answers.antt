@@ -1,6 +1,4 @@
-use Rattle.std.proofs.Common.{ap, ◌∙◌, Some}
-use Rattle.clap.specs.Words.{found_of}
-use Rattle.clap.proofs.WalkLemmas.{first_value-rows}
+use Rattle.{std.proofs.Common.{ap, ◌∙◌, Some}, clap.{specs.Words.found_of, proofs.WalkLemmas.first_value-rows}}
 use Rattle.command_line.proofs.words.copies.copied_value.Goals as goal
 
 pub returns-in_ok-from_str-in-Some : goal.returns-in_ok-from_str-in-Some

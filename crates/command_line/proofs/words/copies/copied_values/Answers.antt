@@ -1,7 +1,5 @@
-use Rattle.std.proofs.Common.{ap, ◌∙◌, [], map, string_bytes, unwrap_or}
-use Rattle.std.proofs.lemmas.Result.{IfOk-weaker}
-use Rattle.clap.specs.Words.{found_of}
-use Rattle.clap.proofs.WalkLemmas.{raw_values-rows}
+use Rattle.std.proofs.{Common.{ap, ◌∙◌, [], map, string_bytes, unwrap_or}, lemmas.Result.IfOk-weaker}
+use Rattle.clap.{specs.Words.found_of, proofs.WalkLemmas.raw_values-rows}
 use Rattle.command_line.proofs.words.copies.copied_values.Goals as goal
 
 pub returns-in-Some : goal.returns-in-Some

@@ -1,6 +1,4 @@
-use Rattle.std.proofs.Common.{◌∙◌, ap}
-use Rattle.clap.specs.Words.{found_of}
-use Rattle.clap.proofs.WalkLemmas.{first_value-rows}
+use Rattle.{std.proofs.Common.{◌∙◌, ap}, clap.{specs.Words.found_of, proofs.WalkLemmas.first_value-rows}}
 use Rattle.command_line.specs.Arguments.{flag_of}
 use Rattle.command_line.proofs.words.copies.is_given.Goals as goal
 

@@ -1,6 +1,4 @@
-use Rattle.std.proofs.Common.{◌≡◌, take, string_bytes}
-use Rattle.std.specs.List.{flat_map}
-use Rattle.command_line.specs.SystemWords.{escaped_byte}
+use Rattle.{std.{proofs.Common.{◌≡◌, take, string_bytes}, specs.List.flat_map}, command_line.specs.SystemWords.escaped_byte}
 use Rattle.command_line.proofs.words.system_words.escaped_word.Given as goal
 
 abbrev pub invariant-loop-byte : goal.invariant-loop-byte

@@ -1,8 +1,5 @@
-use Rattle.std.proofs.Common.{IfOk, Result, subst}
-use Rattle.std.specs.Prelude.{OnOk}
-use Rattle.verity_plan.specs.Settings.{TreeSettingsFields}
-use Rattle.fsverity.specs.Program.{CarriesOut, SaysDone}
-use Rattle.fsverity.specs.declared.options.option_fault.FsOptionFault.{FsOptionFault}
+use Rattle.{std.{proofs.Common.{IfOk, Result, subst}, specs.Prelude.OnOk}, verity_plan.specs.Settings.TreeSettingsFields}
+use Rattle.fsverity.specs.{Program.{CarriesOut, SaysDone}, declared.options.option_fault.FsOptionFault.FsOptionFault}
 use Rattle.fsverity.proofs.program.entry.run_line.Goals as goal
 
 pub returns-in-Ok-clause-printed : goal.returns-in-Ok-clause-printed

@@ -1,15 +1,8 @@
-use Rattle.std.proofs.Common.{◌≡◌, ◌+◌, ◌<◌, ℕ, List, [], Some, false, not, length, get_or, ap, refl, ◌∙◌, arith, map}
-use Rattle.std.proofs.Common.{option_map}
-use Rattle.std.proofs.lemmas.List.{length-map}
-use Rattle.std.proofs.lemmas.List.Sums.{prefix_len-le-length}
-use Rattle.std.proofs.lemmas.Option.{get_or_from_slice_get, slice_get-get_or, slice_get-map}
-use Rattle.std.specs.List.{slice_get}
-use Rattle.fsverity.specs.Openers.Opening.{opener_change}
-use Rattle.fsverity.specs.Runs.Digest.{has_digest}
-use Rattle.fsverity.specs.Runs.Digested.{is_too_large}
+use Rattle.std.proofs.Common.{◌≡◌, ◌+◌, ◌<◌, ℕ, List, [], Some, false, not, length, get_or, ap, refl, ◌∙◌, arith, map, option_map}
+use Rattle.std.proofs.lemmas.{List.{length-map, Sums.prefix_len-le-length}, Option.{get_or_from_slice_get, slice_get-get_or, slice_get-map}}
+use Rattle.{std.specs.List.slice_get, fsverity.specs.{Openers.Opening.opener_change, Runs.{Digest.has_digest, Digested.is_too_large}}}
+use Rattle.{fsverity.proofs.RunLemmas.{line_more, part_of_digest_line, passes_more, stops_run}, verity_io.proofs.KnownLemmas.appends_twice}
 use Rattle.command_line.proofs.Prefixes.{appends_nothing}
-use Rattle.verity_io.proofs.KnownLemmas.{appends_twice}
-use Rattle.fsverity.proofs.RunLemmas.{line_more, part_of_digest_line, passes_more, stops_run}
 use Rattle.fsverity.proofs.runs.digest.write_digest_lines.Goals as goal
 
 -- the mapped element of an index

@@ -1,8 +1,5 @@
-use Rattle.std.proofs.Common.{◌≡◌, ◌≤◌, List, ℕ, map}
-use Rattle.std.specs.Io.KnownBytes.{Appends}
-use Rattle.fsverity.specs.Openers.Opening.{SameFiles}
-use Rattle.fsverity.specs.Runs.Digest.{first_without_digest}
-use Rattle.fsverity.specs.Runs.Digested.{AreDigestLines}
+use Rattle.std.{proofs.Common.{◌≡◌, ◌≤◌, List, ℕ, map}, specs.Io.KnownBytes.Appends}
+use Rattle.fsverity.specs.{Openers.Opening.SameFiles, Runs.{Digest.first_without_digest, Digested.AreDigestLines}}
 use Rattle.fsverity.proofs.runs.digest.write_digest_lines.Given as goal
 
 abbrev pub invariant-loop-name : goal.invariant-loop-name

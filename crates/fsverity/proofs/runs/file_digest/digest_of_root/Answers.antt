@@ -1,5 +1,4 @@
-use Rattle.std.proofs.Common.{◌∙◌, ap, length, rules}
-use Rattle.verity_hash.proofs.HashLemmas.{length-hash_of}
+use Rattle.{std.proofs.Common.{◌∙◌, ap, length, rules}, verity_hash.proofs.HashLemmas.length-hash_of}
 use Rattle.fsverity.proofs.runs.file_digest.digest_of_root.Goals as goal
 
 pub returns-clause-value : goal.returns-clause-value

@@ -1,6 +1,4 @@
-use Rattle.std.proofs.Common.{◌∙◌}
-use Rattle.verity_plan.proofs.PlanLemmas.{planned_is}
-use Rattle.verity_pass.proofs.RootLevels.{root_of_some}
+use Rattle.{std.proofs.Common.◌∙◌, verity_plan.proofs.PlanLemmas.planned_is, verity_pass.proofs.RootLevels.root_of_some}
 use Rattle.fsverity.proofs.DigestLemmas.{ends_short, fails_within, tree_of_some}
 use Rattle.fsverity.proofs.runs.file_digest.root_of_source.Goals as goal
 

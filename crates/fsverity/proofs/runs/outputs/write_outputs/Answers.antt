@@ -1,6 +1,4 @@
-use Rattle.std.proofs.Common.{refl}
-use Rattle.command_line.proofs.Prefixes.{Keeps-refl}
-use Rattle.verity_blocks.specs.Levels.{root_of_file}
+use Rattle.{std.proofs.Common.refl, command_line.proofs.Prefixes.Keeps-refl, verity_blocks.specs.Levels.root_of_file}
 use Rattle.verity_pass.proofs.RootLevels.{length-root_of_file}
 use Rattle.fsverity.proofs.runs.outputs.write_outputs.Goals as goal
 

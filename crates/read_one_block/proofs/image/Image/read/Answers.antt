@@ -1,6 +1,4 @@
-use Rattle.std.proofs.Common.{ℕ, List, subst}
-use Rattle.verity_pass.specs.Paths.{IsAccepted}
-use Rattle.verity_pass.proofs.AcceptedPaths.{accepted-true}
+use Rattle.{std.proofs.Common.{ℕ, List, subst}, verity_pass.{specs.Paths.IsAccepted, proofs.AcceptedPaths.accepted-true}}
 use Rattle.read_one_block.proofs.image.Image.read.Goals as goal
 
 pub returns-in-Ok-clause-right : goal.returns-in-Ok-clause-right

@@ -1,9 +1,6 @@
 use Rattle.std.proofs.Common.{◌+◌, length, refl, ap, ◌∙◌, arith}
+use Rattle.sha_lanes.{specs.Lanes.message_of, proofs.{Pieces.length-message_of, HashSha1.{hash_start, hash_more}, Padding32.blocks_of}}
 use Rattle.sha1.specs.Sha1 as S1
-use Rattle.sha_lanes.specs.Lanes.{message_of}
-use Rattle.sha_lanes.proofs.Pieces.{length-message_of}
-use Rattle.sha_lanes.proofs.HashSha1.{hash_start, hash_more}
-use Rattle.sha_lanes.proofs.Padding32.{blocks_of}
 use Rattle.sha_lanes.proofs.sha_1.digests.hash.Goals as goal
 
 pub loop-k-init : goal.loop-k-init

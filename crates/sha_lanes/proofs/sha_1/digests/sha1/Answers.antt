@@ -1,7 +1,5 @@
 use Rattle.std.proofs.Common.{ℕ, ◌+◌, ◌*◌, ◌<◌, ◌≤◌, length, arith}
-use Rattle.sha_lanes.proofs.LaneWise.{first_cases}
-use Rattle.sha_lanes.proofs.Pieces.{part_below}
-use Rattle.sha_lanes.proofs.HashSha1.{sha1_of_words}
+use Rattle.sha_lanes.proofs.{LaneWise.first_cases, Pieces.part_below, HashSha1.sha1_of_words}
 use Rattle.sha_lanes.proofs.sha_1.digests.sha1.Goals as goal
 
 pub returns : goal.returns

@@ -1,6 +1,4 @@
-use Rattle.std.proofs.Common.{◌-◌}
-use Rattle.sha_lanes.proofs.LaneWise.{own_lanes, zip_lanes, splat_lanes, as_lanes}
-use Rattle.sha_lanes.proofs.HashSha1.{rotate_left_below}
+use Rattle.{std.proofs.Common.◌-◌, sha_lanes.proofs.{LaneWise.{own_lanes, zip_lanes, splat_lanes, as_lanes}, HashSha1.rotate_left_below}}
 use Rattle.sha_lanes.proofs.sha_1.functions.rotl.Goals as goal
 
 pub returns : goal.returns

@@ -1,11 +1,7 @@
 use Rattle.std.proofs.Common.{◌≡◌, ◌+◌, ◌*◌, ◌<◌, ◌++◌, length, take, drop, refl, ap, sym, subst, ◌∙◌, arith, rules}
+use Rattle.sha_lanes.{specs.{Sha1.AddsConstants, Words32.block_count}, proofs.{Groups.group_padded, HashSha1.hash_more}}
+use Rattle.sha_lanes.proofs.{OneMessage.schedule_at_sha1, sha_1.one_message.take_blocks.Goals.{in-Some, in-None}}
 use Rattle.sha1.specs.Sha1 as S1
-use Rattle.sha_lanes.specs.Sha1.{AddsConstants}
-use Rattle.sha_lanes.specs.Words32.{block_count}
-use Rattle.sha_lanes.proofs.Groups.{group_padded}
-use Rattle.sha_lanes.proofs.HashSha1.{hash_more}
-use Rattle.sha_lanes.proofs.OneMessage.{schedule_at_sha1}
-use Rattle.sha_lanes.proofs.sha_1.one_message.take_blocks.Goals.{in-Some, in-None}
 use Rattle.sha_lanes.proofs.sha_1.one_message.take_blocks.Goals as goal
 
 pub loop-j-init : goal.loop-j-init

@@ -1,6 +1,5 @@
-use Rattle.std.proofs.Common.{refl}
+use Rattle.{std.proofs.Common.refl, sha_lanes.proofs.HashSha1.{rounds_start, compress_is}}
 use Rattle.sha1.specs.Sha1 as S1
-use Rattle.sha_lanes.proofs.HashSha1.{rounds_start, compress_is}
 use Rattle.sha_lanes.proofs.sha_1.plain_rounds.compress.Goals as goal
 
 pub returns : goal.returns

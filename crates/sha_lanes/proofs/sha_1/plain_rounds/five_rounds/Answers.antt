@@ -1,7 +1,5 @@
 use Rattle.std.proofs.Common.{ℕ, ◌+◌, ◌<◌, refl, ◌∙◌, arith}
-use Rattle.sha_lanes.specs.Sha1.{first_round}
-use Rattle.sha_lanes.proofs.LaneWise.{word_of_lane}
-use Rattle.sha_lanes.proofs.HashSha1.{kind_ends, five_words, round_next}
+use Rattle.sha_lanes.{specs.Sha1.first_round, proofs.{LaneWise.word_of_lane, HashSha1.{kind_ends, five_words, round_next}}}
 use Rattle.sha_lanes.proofs.sha_1.plain_rounds.five_rounds.Goals as goal
 
 pub returns : goal.returns

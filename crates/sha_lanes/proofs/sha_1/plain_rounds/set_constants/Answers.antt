@@ -1,7 +1,5 @@
-use Rattle.std.proofs.Common.{◌<◌, sym, ◌∙◌, arith, below_more}
-use Rattle.std.proofs.Math.ListN.{length-set}
-use Rattle.sha_lanes.proofs.LaneWise.{splat_lanes, lane_at, lane_kept}
-use Rattle.sha_lanes.proofs.OneMessage.{constants_of_zeros_sha1}
+use Rattle.std.proofs.{Common.{◌<◌, sym, ◌∙◌, arith, below_more}, Math.ListN.length-set}
+use Rattle.sha_lanes.proofs.{LaneWise.{splat_lanes, lane_at, lane_kept}, OneMessage.constants_of_zeros_sha1}
 use Rattle.sha_lanes.proofs.sha_1.plain_rounds.set_constants.Goals as goal
 
 pub loop-t-preserved : goal.loop-t-preserved

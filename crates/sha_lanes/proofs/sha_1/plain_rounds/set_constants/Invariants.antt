@@ -1,7 +1,5 @@
-use Rattle.std.proofs.Common.{◌≡◌, ℕ, ◌<◌, length, slice_index}
-use Rattle.std.specs.Prelude.{replicate}
+use Rattle.{std.{proofs.Common.{◌≡◌, ℕ, ◌<◌, length, slice_index}, specs.Prelude.replicate}, sha_lanes.specs.Lanes.lane}
 use Rattle.sha1.specs.Sha1 as S1
-use Rattle.sha_lanes.specs.Lanes.{lane}
 use Rattle.sha_lanes.proofs.sha_1.plain_rounds.set_constants.Given as goal
 
 abbrev pub invariant-loop-t : goal.invariant-loop-t

@@ -1,8 +1,6 @@
-use Rattle.std.proofs.Common.{subst, sym, ap, take, drop, ◌∙◌, arith}
-use Rattle.std.specs.Prelude.{replicate}
+use Rattle.std.{proofs.Common.{subst, sym, ap, take, drop, ◌∙◌, arith}, specs.Prelude.replicate}
+use Rattle.sha_lanes.{specs.Sha1.AddsConstants, proofs.OneMessage.zero_schedule_sha1}
 use Rattle.sha1.specs.Sha1 as S1
-use Rattle.sha_lanes.specs.Sha1.{AddsConstants}
-use Rattle.sha_lanes.proofs.OneMessage.{zero_schedule_sha1}
 use Rattle.sha_lanes.proofs.sha_1.plain_rounds.set_words.Goals as goal
 
 pub returns-then-are_zeros : goal.returns-then-are_zeros

@@ -1,5 +1,4 @@
-use Rattle.std.proofs.Common.{arith}
-use Rattle.sha_lanes.proofs.HashSha1.{rounds_at}
+use Rattle.{std.proofs.Common.arith, sha_lanes.proofs.HashSha1.rounds_at}
 use Rattle.sha_lanes.proofs.sha_1.plain_rounds.twenty_rounds.Goals as goal
 
 pub loop-turn-preserved : goal.loop-turn-preserved

@@ -1,6 +1,5 @@
-use Rattle.std.proofs.Common.{◌≡◌, ◌+◌, ◌*◌, ℕ, List}
+use Rattle.{std.proofs.Common.{◌≡◌, ◌+◌, ◌*◌, ℕ, List}, sha_lanes.specs.Sha1.{AddsConstants, first_round}}
 use Rattle.sha1.specs.Sha1 as S1
-use Rattle.sha_lanes.specs.Sha1.{AddsConstants, first_round}
 use Rattle.sha_lanes.proofs.sha_1.plain_rounds.twenty_rounds.Given as goal
 
 abbrev pub invariant-loop-turn : goal.invariant-loop-turn

@@ -1,8 +1,5 @@
 use Rattle.std.proofs.Common.{refl, ◌∙◌}
-use Rattle.sha_lanes.specs.Lanes.{lane}
-use Rattle.sha_lanes.proofs.LaneWise.{cons_eq}
-use Rattle.sha_lanes.proofs.Hash32.{added}
-use Rattle.sha_lanes.proofs.HashSha1.{rounds_start, compress_is}
+use Rattle.sha_lanes.{specs.Lanes.lane, proofs.{LaneWise.cons_eq, Hash32.added, HashSha1.{rounds_start, compress_is}}}
 use Rattle.sha_lanes.proofs.sha_1.rounds.compress.Goals as goal
 
 pub returns : goal.returns

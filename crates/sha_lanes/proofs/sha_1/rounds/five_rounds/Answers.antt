@@ -1,7 +1,5 @@
 use Rattle.std.proofs.Common.{◌+◌, sym, ◌∙◌, arith}
-use Rattle.sha_lanes.specs.Lanes.{lane}
-use Rattle.sha_lanes.proofs.LaneWise.{word_of_lane}
-use Rattle.sha_lanes.proofs.HashSha1.{kind_constant, lane_of_five, round_next}
+use Rattle.sha_lanes.{specs.Lanes.lane, proofs.{LaneWise.word_of_lane, HashSha1.{kind_constant, lane_of_five, round_next}}}
 use Rattle.sha_lanes.proofs.sha_1.rounds.five_rounds.Goals as goal
 
 pub returns : goal.returns

@@ -1,5 +1,4 @@
-use Rattle.sha_lanes.proofs.LaneWise.{own_lanes, zip_lanes, splat_lanes, as_lanes}
-use Rattle.sha_lanes.proofs.HashSha1.{round_of}
+use Rattle.sha_lanes.proofs.{LaneWise.{own_lanes, zip_lanes, splat_lanes, as_lanes}, HashSha1.round_of}
 use Rattle.sha_lanes.proofs.sha_1.rounds.round.Goals as goal
 
 pub returns : goal.returns

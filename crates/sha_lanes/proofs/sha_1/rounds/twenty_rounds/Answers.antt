@@ -1,6 +1,4 @@
-use Rattle.std.proofs.Common.{arith}
-use Rattle.sha_lanes.specs.Lanes.{lane}
-use Rattle.sha_lanes.proofs.HashSha1.{rounds_at}
+use Rattle.{std.proofs.Common.arith, sha_lanes.{specs.Lanes.lane, proofs.HashSha1.rounds_at}}
 use Rattle.sha_lanes.proofs.sha_1.rounds.twenty_rounds.Goals as goal
 
 pub loop-turn-preserved : goal.loop-turn-preserved

@@ -1,5 +1,4 @@
-use Rattle.std.proofs.Common.{◌*◌}
-use Rattle.sha_lanes.specs.Sha1.{RoundsFrom, first_round}
+use Rattle.{std.proofs.Common.◌*◌, sha_lanes.specs.Sha1.{RoundsFrom, first_round}}
 use Rattle.sha_lanes.proofs.sha_1.rounds.twenty_rounds.Given as goal
 
 abbrev pub invariant-loop-turn : goal.invariant-loop-turn

@@ -1,6 +1,4 @@
-use Rattle.std.proofs.Common.{ap, ◌∙◌}
-use Rattle.std.specs.Int.{w32, rotate_left}
-use Rattle.sha_lanes.proofs.LaneWise.{own_lanes, zip_lanes}
+use Rattle.{std.{proofs.Common.{ap, ◌∙◌}, specs.Int.{w32, rotate_left}}, sha_lanes.proofs.LaneWise.{own_lanes, zip_lanes}}
 use Rattle.sha_lanes.proofs.sha_1.schedule.next_word.Goals as goal
 
 pub returns : goal.returns

@@ -1,5 +1,4 @@
-use Rattle.std.proofs.Common.{◌≡◌, ◌-◌, ◌∙◌, arith}
-use Rattle.std.proofs.Math.ListN.{length-set}
+use Rattle.std.proofs.{Common.{◌≡◌, ◌-◌, ◌∙◌, arith}, Math.ListN.length-set}
 use Rattle.sha_lanes.proofs.HashSha1.{schedule_start, schedule_more, schedule_whole}
 use Rattle.sha_lanes.proofs.sha_1.schedule.schedule.Goals as goal
 

@@ -1,7 +1,5 @@
-use Rattle.std.proofs.Common.{◌≡◌, ℕ, ◌<◌, ◌-◌, List, length, take}
+use Rattle.{std.proofs.Common.{◌≡◌, ℕ, ◌<◌, ◌-◌, List, length, take}, sha_lanes.specs.{Lanes.lane, Words32.BeginsSchedule}}
 use Rattle.sha1.specs.Sha1 as S1
-use Rattle.sha_lanes.specs.Lanes.{lane}
-use Rattle.sha_lanes.specs.Words32.{BeginsSchedule}
 use Rattle.sha_lanes.proofs.sha_1.schedule.schedule.Given as goal
 
 abbrev pub invariant-loop-t : goal.invariant-loop-t

@@ -1,6 +1,5 @@
-use Rattle.std.proofs.Common.{◌≡◌, ℕ, ◌+◌, ◌*◌, ◌<◌, ◌≤◌, length}
+use Rattle.{std.proofs.Common.{◌≡◌, ℕ, ◌+◌, ◌*◌, ◌<◌, ◌≤◌, length}, sha_lanes.specs.Lanes.{lane, message_of}}
 use Rattle.sha2.specs.Sha256 as S256
-use Rattle.sha_lanes.specs.Lanes.{lane, message_of}
 use Rattle.sha_lanes.proofs.words32.digests.hash.Given as goal
 
 abbrev pub invariant-loop-k : goal.invariant-loop-k

@@ -1,9 +1,6 @@
 use Rattle.std.proofs.Common.{ℕ, ◌+◌, ◌*◌, ◌<◌, ◌≤◌, length, ap, ◌∙◌, arith}
+use Rattle.sha_lanes.{specs.Lanes.message_of, proofs.{LaneWise.first_cases, Pieces.part_below, Hash32.sha256_is}}
 use Rattle.sha2.specs.Sha256 as S256
-use Rattle.sha_lanes.specs.Lanes.{message_of}
-use Rattle.sha_lanes.proofs.LaneWise.{first_cases}
-use Rattle.sha_lanes.proofs.Pieces.{part_below}
-use Rattle.sha_lanes.proofs.Hash32.{sha256_is}
 use Rattle.sha_lanes.proofs.words32.digests.sha256.Goals as goal
 
 pub returns : goal.returns

@@ -1,8 +1,5 @@
-use Rattle.std.proofs.Common.{◌≡◌, ◌+◌, ◌-◌, ◌*◌, length, slice_index, ap, sym, ◌∙◌, arith}
-use Rattle.std.proofs.lemmas.List.{take_all}
-use Rattle.std.proofs.lemmas.Slice.{take-put_mid}
-use Rattle.std.specs.Int.{w32, to_be_bytes}
-use Rattle.sha_lanes.proofs.Hash32.{digest_start, digest_more}
+use Rattle.std.proofs.{Common.{◌≡◌, ◌+◌, ◌-◌, ◌*◌, length, slice_index, ap, sym, ◌∙◌, arith}, lemmas.{List.take_all, Slice.take-put_mid}}
+use Rattle.{std.specs.Int.{w32, to_be_bytes}, sha_lanes.proofs.Hash32.{digest_start, digest_more}}
 use Rattle.sha2.specs.Sha256 as S256
 use Rattle.sha_lanes.proofs.words32.hash_values.put_bytes.Goals as goal
 

@@ -1,5 +1,4 @@
-use Rattle.std.proofs.Common.{◌≡◌, length, take}
-use Rattle.sha_lanes.specs.Lanes.{lane}
+use Rattle.{std.proofs.Common.{◌≡◌, length, take}, sha_lanes.specs.Lanes.lane}
 use Rattle.sha_lanes.proofs.words32.hash_values.words_of.Given as goal
 
 abbrev pub invariant-loop-i : goal.invariant-loop-i

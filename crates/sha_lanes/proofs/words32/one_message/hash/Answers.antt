@@ -1,7 +1,5 @@
-use Rattle.std.proofs.Common.{◌≡◌, ◌+◌, ◌*◌, ◌/◌, ◌%◌, ◌++◌, ap, ◌∙◌, arith}
+use Rattle.{std.proofs.Common.{◌≡◌, ◌+◌, ◌*◌, ◌/◌, ◌%◌, ◌++◌, ap, ◌∙◌, arith}, sha_lanes.proofs.{Hash32.hash_start, OneMessage.hash_end32}}
 use Rattle.sha2.specs.Sha256 as S256
-use Rattle.sha_lanes.proofs.Hash32.{hash_start}
-use Rattle.sha_lanes.proofs.OneMessage.{hash_end32}
 use Rattle.sha_lanes.proofs.words32.one_message.hash.Goals as goal
 
 pub loop-group-init : goal.loop-group-init

@@ -1,10 +1,7 @@
 use Rattle.std.proofs.Common.{◌≡◌, ◌+◌, ◌*◌, ◌<◌, ◌++◌, length, take, drop, refl, ap, sym, subst, ◌∙◌, arith, rules}
-use Rattle.sha2.specs.Sha256 as S256
-use Rattle.sha_lanes.specs.Words32.{AddsConstants, block_count}
-use Rattle.sha_lanes.proofs.Groups.{group_padded}
-use Rattle.sha_lanes.proofs.Hash32.{hash_more}
-use Rattle.sha_lanes.proofs.OneMessage.{schedule_at32}
+use Rattle.sha_lanes.{specs.Words32.{AddsConstants, block_count}, proofs.{Groups.group_padded, Hash32.hash_more, OneMessage.schedule_at32}}
 use Rattle.sha_lanes.proofs.words32.one_message.take_blocks.Goals.{in-Some, in-None}
+use Rattle.sha2.specs.Sha256 as S256
 use Rattle.sha_lanes.proofs.words32.one_message.take_blocks.Goals as goal
 
 pub loop-j-init : goal.loop-j-init

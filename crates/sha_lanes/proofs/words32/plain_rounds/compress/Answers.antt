@@ -1,6 +1,5 @@
-use Rattle.std.proofs.Common.{refl}
+use Rattle.{std.proofs.Common.refl, sha_lanes.proofs.Hash32.{rounds_start, compress_is}}
 use Rattle.sha2.specs.Sha256 as S256
-use Rattle.sha_lanes.proofs.Hash32.{rounds_start, compress_is}
 use Rattle.sha_lanes.proofs.words32.plain_rounds.compress.Goals as goal
 
 pub returns : goal.returns

@@ -1,6 +1,4 @@
-use Rattle.std.proofs.Common.{◌+◌, sym, ◌∙◌, arith}
-use Rattle.sha_lanes.proofs.LaneWise.{eight_words}
-use Rattle.sha_lanes.proofs.Hash32.{plain_round_next}
+use Rattle.{std.proofs.Common.{◌+◌, sym, ◌∙◌, arith}, sha_lanes.proofs.{LaneWise.eight_words, Hash32.plain_round_next}}
 use Rattle.sha_lanes.proofs.words32.plain_rounds.eight_rounds.Goals as goal
 
 pub returns : goal.returns

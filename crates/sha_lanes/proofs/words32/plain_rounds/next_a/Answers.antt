@@ -1,6 +1,5 @@
-use Rattle.std.proofs.Common.{◌≡◌, ℕ, ◌+◌, ◌-◌, ◌%◌, ◌^◌, ◌<◌, ap, ◌∙◌, arith}
+use Rattle.{std.proofs.Common.{◌≡◌, ℕ, ◌+◌, ◌-◌, ◌%◌, ◌^◌, ◌<◌, ap, ◌∙◌, arith}, sha_lanes.proofs.Majority.majority}
 use Rattle.sha2.specs.Sha256 as S256
-use Rattle.sha_lanes.proofs.Majority.{majority}
 use Rattle.sha_lanes.proofs.words32.plain_rounds.next_a.Goals as goal
 
 -- T₁ is the next e less d

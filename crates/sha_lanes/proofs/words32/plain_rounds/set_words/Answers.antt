@@ -1,8 +1,6 @@
-use Rattle.std.proofs.Common.{subst, sym, ap, take, drop, ◌∙◌, arith}
-use Rattle.std.specs.Prelude.{replicate}
+use Rattle.std.{proofs.Common.{subst, sym, ap, take, drop, ◌∙◌, arith}, specs.Prelude.replicate}
+use Rattle.sha_lanes.{specs.Words32.AddsConstants, proofs.OneMessage.zero_schedule32}
 use Rattle.sha2.specs.Sha256 as S256
-use Rattle.sha_lanes.specs.Words32.{AddsConstants}
-use Rattle.sha_lanes.proofs.OneMessage.{zero_schedule32}
 use Rattle.sha_lanes.proofs.words32.plain_rounds.set_words.Goals as goal
 
 pub returns-then-are_zeros : goal.returns-then-are_zeros

@@ -1,6 +1,5 @@
-use Rattle.std.proofs.Common.{◌≡◌, ℕ, ◌<◌, ◌*◌}
+use Rattle.{std.proofs.Common.{◌≡◌, ℕ, ◌<◌, ◌*◌}, sha_lanes.specs.Lanes.lane}
 use Rattle.sha2.specs.Sha256 as S256
-use Rattle.sha_lanes.specs.Lanes.{lane}
 use Rattle.sha_lanes.proofs.words32.rounds.compress.Given as goal
 
 abbrev pub invariant-loop-turn : goal.invariant-loop-turn

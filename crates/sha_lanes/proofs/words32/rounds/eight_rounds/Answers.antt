@@ -1,7 +1,5 @@
 use Rattle.std.proofs.Common.{◌+◌, sym, refl, ◌∙◌, arith}
-use Rattle.sha_lanes.specs.Lanes.{lane}
-use Rattle.sha_lanes.proofs.LaneWise.{word_of_lane, lane_of_eight}
-use Rattle.sha_lanes.proofs.Hash32.{round_next}
+use Rattle.sha_lanes.{specs.Lanes.lane, proofs.{LaneWise.{word_of_lane, lane_of_eight}, Hash32.round_next}}
 use Rattle.sha_lanes.proofs.words32.rounds.eight_rounds.Goals as goal
 
 pub returns : goal.returns

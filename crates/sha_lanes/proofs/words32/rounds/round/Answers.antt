@@ -1,5 +1,4 @@
-use Rattle.sha_lanes.proofs.LaneWise.{own_lanes, zip_lanes, splat_lanes}
-use Rattle.sha_lanes.proofs.Hash32.{round_of}
+use Rattle.sha_lanes.proofs.{LaneWise.{own_lanes, zip_lanes, splat_lanes}, Hash32.round_of}
 use Rattle.sha_lanes.proofs.words32.rounds.round.Goals as goal
 
 pub returns : goal.returns

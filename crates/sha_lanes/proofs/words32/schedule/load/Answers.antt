@@ -1,9 +1,6 @@
-use Rattle.std.proofs.Common.{◌≡◌, ◌+◌, ◌*◌, take, drop, ap, sym, ◌∙◌, arith}
-use Rattle.std.proofs.Math.ListN.{length-set}
-use Rattle.sha_lanes.proofs.LaneWise.{lane_store}
-use Rattle.sha_lanes.proofs.Hash32.{first_words_start, first_words_more, word_of_part}
+use Rattle.std.proofs.{Common.{◌≡◌, ◌+◌, ◌*◌, take, drop, ap, sym, ◌∙◌, arith}, Math.ListN.length-set}
+use Rattle.sha_lanes.{proofs.{LaneWise.lane_store, Hash32.{first_words_start, first_words_more, word_of_part}}, specs.Lanes.lane}
 use Rattle.sha2.specs.Sha256 as S256
-use Rattle.sha_lanes.specs.Lanes.{lane}
 use Rattle.sha_lanes.proofs.words32.schedule.load.Goals as goal
 
 pub loop-t-init : goal.loop-t-init

@@ -1,6 +1,5 @@
-use Rattle.std.proofs.Common.{◌≡◌, ℕ, ◌<◌, ◌≤◌, ◌+◌, ◌*◌, length, take, drop}
+use Rattle.{std.proofs.Common.{◌≡◌, ℕ, ◌<◌, ◌≤◌, ◌+◌, ◌*◌, length, take, drop}, sha_lanes.specs.Lanes.lane}
 use Rattle.sha2.specs.Sha256 as S256
-use Rattle.sha_lanes.specs.Lanes.{lane}
 use Rattle.sha_lanes.proofs.words32.schedule.load.Given as goal
 
 abbrev pub invariant-loop-t : goal.invariant-loop-t

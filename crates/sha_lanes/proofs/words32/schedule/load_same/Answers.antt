@@ -1,9 +1,6 @@
-use Rattle.std.proofs.Common.{◌≡◌, take, ap, sym, ◌∙◌, arith}
-use Rattle.std.proofs.Math.ListN.{length-set}
-use Rattle.sha_lanes.proofs.LaneWise.{splat_lanes, lane_store}
-use Rattle.sha_lanes.proofs.Hash32.{first_words_start, first_words_more}
+use Rattle.std.proofs.{Common.{◌≡◌, take, ap, sym, ◌∙◌, arith}, Math.ListN.length-set}
+use Rattle.sha_lanes.{proofs.{LaneWise.{splat_lanes, lane_store}, Hash32.{first_words_start, first_words_more}}, specs.Lanes.lane}
 use Rattle.sha2.specs.Sha256 as S256
-use Rattle.sha_lanes.specs.Lanes.{lane}
 use Rattle.sha_lanes.proofs.words32.schedule.load_same.Goals as goal
 
 pub loop-t-init : goal.loop-t-init

@@ -1,7 +1,5 @@
-use Rattle.std.proofs.Common.{◌+◌, ◌*◌, ◌<◌, length, set, refl, ◌∙◌, arith}
-use Rattle.std.proofs.Math.ListN.{length-set}
-use Rattle.sha_lanes.proofs.LaneWise.{two_stored}
-use Rattle.sha_lanes.proofs.Hash32.{schedule_start, schedule_two, schedule_whole}
+use Rattle.std.proofs.{Common.{◌+◌, ◌*◌, ◌<◌, length, set, refl, ◌∙◌, arith}, Math.ListN.length-set}
+use Rattle.sha_lanes.proofs.{LaneWise.two_stored, Hash32.{schedule_start, schedule_two, schedule_whole}}
 use Rattle.sha_lanes.proofs.words32.schedule.schedule.Goals as goal
 
 pub loop-turn-init : goal.loop-turn-init

@@ -1,5 +1,4 @@
-use Rattle.std.proofs.Common.{refl}
-use Rattle.sha_lanes.proofs.LaneWise.{eight_cases}
+use Rattle.{std.proofs.Common.refl, sha_lanes.proofs.LaneWise.eight_cases}
 use Rattle.sha_lanes.proofs.words32.schedule.words_at.Goals as goal
 
 pub returns : goal.returns

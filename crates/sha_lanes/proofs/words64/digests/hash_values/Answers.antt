@@ -1,7 +1,6 @@
 use Rattle.std.proofs.Common.{◌≡◌, ℕ, ◌+◌, ◌*◌, ◌<◌, ◌≤◌, ◌++◌, length, ap, ◌∙◌, arith}
+use Rattle.sha_lanes.proofs.{LaneWise.first_cases, Pieces.{part_below, part_of_rest, length_of_rest}}
 use Rattle.sha2.specs.Sha512 as S512
-use Rattle.sha_lanes.proofs.LaneWise.{first_cases}
-use Rattle.sha_lanes.proofs.Pieces.{part_below, part_of_rest, length_of_rest}
 use Rattle.sha_lanes.proofs.words64.digests.hash_values.Goals as goal
 
 pub returns : goal.returns

@@ -1,7 +1,5 @@
 use Rattle.std.proofs.Common.{◌≡◌, ℕ, ◌<◌, List, take, refl}
-use Rattle.sha_lanes.specs.Lanes.{row, message_of}
-use Rattle.sha_lanes.proofs.LaneWise.{first_cases}
-use Rattle.sha_lanes.proofs.Hash64.{sha384_is}
+use Rattle.sha_lanes.{specs.Lanes.{row, message_of}, proofs.{LaneWise.first_cases, Hash64.sha384_is}}
 use Rattle.sha_lanes.proofs.words64.digests.sha384.Goals as goal
 
 pub returns : goal.returns

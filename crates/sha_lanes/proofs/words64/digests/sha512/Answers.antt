@@ -1,6 +1,4 @@
-use Rattle.std.proofs.Common.{refl}
-use Rattle.sha_lanes.specs.Lanes.{message_of}
-use Rattle.sha_lanes.proofs.Hash64.{sha512_is}
+use Rattle.{std.proofs.Common.refl, sha_lanes.{specs.Lanes.message_of, proofs.Hash64.sha512_is}}
 use Rattle.sha_lanes.proofs.words64.digests.sha512.Goals as goal
 
 pub returns : goal.returns

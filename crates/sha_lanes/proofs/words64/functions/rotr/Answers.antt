@@ -1,6 +1,4 @@
-use Rattle.std.proofs.Common.{◌-◌}
-use Rattle.sha_lanes.proofs.LaneWise.{own_lanes, zip_lanes, splat_lanes, as_lanes}
-use Rattle.sha_lanes.proofs.Hash64.{rotate_right_below}
+use Rattle.{std.proofs.Common.◌-◌, sha_lanes.proofs.{LaneWise.{own_lanes, zip_lanes, splat_lanes, as_lanes}, Hash64.rotate_right_below}}
 use Rattle.sha_lanes.proofs.words64.functions.rotr.Goals as goal
 
 pub returns : goal.returns

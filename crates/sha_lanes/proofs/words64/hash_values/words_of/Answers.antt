@@ -1,6 +1,4 @@
-use Rattle.std.proofs.Common.{◌∙◌, arith}
-use Rattle.std.proofs.Math.ListN.{length-set}
-use Rattle.sha_lanes.proofs.LaneWise.{word_copied, lane_copied}
+use Rattle.{std.proofs.{Common.{◌∙◌, arith}, Math.ListN.length-set}, sha_lanes.proofs.LaneWise.{word_copied, lane_copied}}
 use Rattle.sha_lanes.proofs.words64.hash_values.words_of.Goals as goal
 
 pub loop-i-preserved : goal.loop-i-preserved

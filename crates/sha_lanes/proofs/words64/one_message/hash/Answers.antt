@@ -1,7 +1,5 @@
-use Rattle.std.proofs.Common.{◌≡◌, ◌+◌, ◌*◌, ◌/◌, ◌%◌, ◌++◌, ap, ◌∙◌, arith}
+use Rattle.{std.proofs.Common.{◌≡◌, ◌+◌, ◌*◌, ◌/◌, ◌%◌, ◌++◌, ap, ◌∙◌, arith}, sha_lanes.proofs.{Hash64.hash_start, OneMessage.hash_end64}}
 use Rattle.sha2.specs.Sha512 as S512
-use Rattle.sha_lanes.proofs.Hash64.{hash_start}
-use Rattle.sha_lanes.proofs.OneMessage.{hash_end64}
 use Rattle.sha_lanes.proofs.words64.one_message.hash.Goals as goal
 
 pub loop-group-init : goal.loop-group-init

@@ -1,10 +1,7 @@
 use Rattle.std.proofs.Common.{◌≡◌, ◌+◌, ◌*◌, ◌<◌, ◌++◌, length, take, drop, refl, ap, sym, subst, ◌∙◌, arith, rules}
-use Rattle.sha2.specs.Sha512 as S512
-use Rattle.sha_lanes.specs.Words64.{AddsConstants, block_count}
-use Rattle.sha_lanes.proofs.Groups.{group_padded}
-use Rattle.sha_lanes.proofs.Hash64.{hash_more}
-use Rattle.sha_lanes.proofs.OneMessage.{schedule_at64}
+use Rattle.sha_lanes.{specs.Words64.{AddsConstants, block_count}, proofs.{Groups.group_padded, Hash64.hash_more, OneMessage.schedule_at64}}
 use Rattle.sha_lanes.proofs.words64.one_message.take_blocks.Goals.{in-Some, in-None}
+use Rattle.sha2.specs.Sha512 as S512
 use Rattle.sha_lanes.proofs.words64.one_message.take_blocks.Goals as goal
 
 pub loop-j-init : goal.loop-j-init

@@ -1,9 +1,6 @@
 use Rattle.std.proofs.Common.{◌≡◌, ◌+◌, ◌-◌, ◌*◌, ◌≤◌, ◌++◌, length, slice_index, take, drop, ap, ◌∙◌, arith, rules, below_more}
-use Rattle.std.proofs.lemmas.Slice.{overwrites}
-use Rattle.sha2.specs.Sha512.{padded_message}
-use Rattle.sha_lanes.specs.Words64.{padded_row}
-use Rattle.sha_lanes.proofs.Pieces.{row_written, row_kept, length-part, length-pieces}
-use Rattle.sha_lanes.proofs.Padding64.{row_filled}
+use Rattle.{std.proofs.lemmas.Slice.overwrites, sha2.specs.Sha512.padded_message}
+use Rattle.sha_lanes.{specs.Words64.padded_row, proofs.{Pieces.{row_written, row_kept, length-part, length-pieces}, Padding64.row_filled}}
 use Rattle.sha_lanes.proofs.words64.padding.padded_rows.Goals as goal
 
 pub loop-j-preserved : goal.loop-j-preserved

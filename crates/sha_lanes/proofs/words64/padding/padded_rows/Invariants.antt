@@ -1,6 +1,4 @@
-use Rattle.std.proofs.Common.{◌≡◌, ℕ, ◌+◌, ◌*◌, ◌<◌, ◌≤◌, length, take, drop}
-use Rattle.sha_lanes.specs.Lanes.{message_of}
-use Rattle.sha_lanes.specs.Words64.{padded_row}
+use Rattle.{std.proofs.Common.{◌≡◌, ℕ, ◌+◌, ◌*◌, ◌<◌, ◌≤◌, length, take, drop}, sha_lanes.specs.{Lanes.message_of, Words64.padded_row}}
 use Rattle.sha_lanes.proofs.words64.padding.padded_rows.Given as goal
 
 abbrev pub invariant-loop-j : goal.invariant-loop-j

@@ -1,5 +1,4 @@
-use Rattle.std.proofs.Common.{slice_index, get_or, [], ap, ◌∙◌, arith, below_more}
-use Rattle.std.proofs.Math.ListN.{length-set}
+use Rattle.std.proofs.{Common.{slice_index, get_or, [], ap, ◌∙◌, arith, below_more}, Math.ListN.length-set}
 use Rattle.sha_lanes.proofs.LaneWise.{splat_lanes, lane_at, lane_kept, word_of_lane}
 use Rattle.sha2.specs.Sha512 as S512
 use Rattle.sha_lanes.proofs.words64.plain_rounds.add_constants.Goals as goal

@@ -1,6 +1,5 @@
-use Rattle.std.proofs.Common.{◌≡◌, ℕ, ◌<◌, length, slice_index}
+use Rattle.{std.proofs.Common.{◌≡◌, ℕ, ◌<◌, length, slice_index}, sha_lanes.specs.Lanes.lane}
 use Rattle.sha2.specs.Sha512 as S512
-use Rattle.sha_lanes.specs.Lanes.{lane}
 use Rattle.sha_lanes.proofs.words64.plain_rounds.add_constants.Given as goal
 
 abbrev pub invariant-loop-t : goal.invariant-loop-t

@@ -1,6 +1,5 @@
-use Rattle.std.proofs.Common.{◌≡◌, ◌*◌, refl, ap, ◌∙◌, arith}
+use Rattle.{std.proofs.Common.{◌≡◌, ◌*◌, refl, ap, ◌∙◌, arith}, sha_lanes.proofs.Hash64.{rounds_start, compress_is}}
 use Rattle.sha2.specs.Sha512 as S512
-use Rattle.sha_lanes.proofs.Hash64.{rounds_start, compress_is}
 use Rattle.sha_lanes.proofs.words64.plain_rounds.compress.Goals as goal
 
 pub loop-turn-init : goal.loop-turn-init

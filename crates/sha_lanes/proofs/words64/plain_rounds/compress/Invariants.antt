@@ -1,6 +1,5 @@
-use Rattle.std.proofs.Common.{◌≡◌, ◌*◌, ℕ, List}
+use Rattle.{std.proofs.Common.{◌≡◌, ◌*◌, ℕ, List}, sha_lanes.specs.Words64.AddsConstants}
 use Rattle.sha2.specs.Sha512 as S512
-use Rattle.sha_lanes.specs.Words64.{AddsConstants}
 use Rattle.sha_lanes.proofs.words64.plain_rounds.compress.Given as goal
 
 abbrev pub invariant-loop-turn : goal.invariant-loop-turn

@@ -1,7 +1,5 @@
-use Rattle.std.proofs.Common.{◌<◌, slice_index, sym, ◌∙◌, arith, below_more}
-use Rattle.std.proofs.Math.ListN.{length-set}
-use Rattle.sha_lanes.proofs.LaneWise.{splat_lanes, lane_at, lane_kept}
-use Rattle.sha_lanes.proofs.OneMessage.{constants_of_zeros64}
+use Rattle.std.proofs.{Common.{◌<◌, slice_index, sym, ◌∙◌, arith, below_more}, Math.ListN.length-set}
+use Rattle.sha_lanes.proofs.{LaneWise.{splat_lanes, lane_at, lane_kept}, OneMessage.constants_of_zeros64}
 use Rattle.sha2.specs.Sha512 as S512
 use Rattle.sha_lanes.proofs.words64.plain_rounds.set_constants.Goals as goal
 

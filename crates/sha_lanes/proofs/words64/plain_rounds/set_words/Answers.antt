@@ -1,8 +1,6 @@
-use Rattle.std.proofs.Common.{subst, sym, ap, take, drop, ◌∙◌, arith}
-use Rattle.std.specs.Prelude.{replicate}
+use Rattle.std.{proofs.Common.{subst, sym, ap, take, drop, ◌∙◌, arith}, specs.Prelude.replicate}
+use Rattle.sha_lanes.{specs.Words64.AddsConstants, proofs.OneMessage.zero_schedule64}
 use Rattle.sha2.specs.Sha512 as S512
-use Rattle.sha_lanes.specs.Words64.{AddsConstants}
-use Rattle.sha_lanes.proofs.OneMessage.{zero_schedule64}
 use Rattle.sha_lanes.proofs.words64.plain_rounds.set_words.Goals as goal
 
 pub returns-then-are_zeros : goal.returns-then-are_zeros

@@ -1,8 +1,6 @@
 use Rattle.std.proofs.Common.{◌≡◌, ◌*◌, refl, ap, ◌∙◌, arith}
+use Rattle.sha_lanes.{specs.Lanes.lane, proofs.{LaneWise.cons_eq, Hash64.{rounds_start, added, compress_is}}}
 use Rattle.sha2.specs.Sha512 as S512
-use Rattle.sha_lanes.specs.Lanes.{lane}
-use Rattle.sha_lanes.proofs.LaneWise.{cons_eq}
-use Rattle.sha_lanes.proofs.Hash64.{rounds_start, added, compress_is}
 use Rattle.sha_lanes.proofs.words64.rounds.compress.Goals as goal
 
 pub loop-turn-init : goal.loop-turn-init

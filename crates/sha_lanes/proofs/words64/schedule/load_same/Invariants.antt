@@ -1,6 +1,5 @@
-use Rattle.std.proofs.Common.{◌≡◌, ℕ, ◌<◌, length, take}
+use Rattle.{std.proofs.Common.{◌≡◌, ℕ, ◌<◌, length, take}, sha_lanes.specs.Lanes.lane}
 use Rattle.sha2.specs.Sha512 as S512
-use Rattle.sha_lanes.specs.Lanes.{lane}
 use Rattle.sha_lanes.proofs.words64.schedule.load_same.Given as goal
 
 abbrev pub invariant-loop-t : goal.invariant-loop-t

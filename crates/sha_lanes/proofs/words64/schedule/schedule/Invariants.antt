@@ -1,7 +1,6 @@
 use Rattle.std.proofs.Common.{◌≡◌, ℕ, ◌<◌, ◌+◌, ◌-◌, ◌*◌, List, [], length, take, get_or}
+use Rattle.sha_lanes.specs.{Lanes.lane, Words64.BeginsSchedule}
 use Rattle.sha2.specs.Sha512 as S512
-use Rattle.sha_lanes.specs.Lanes.{lane}
-use Rattle.sha_lanes.specs.Words64.{BeginsSchedule}
 use Rattle.sha_lanes.proofs.words64.schedule.schedule.Given as goal
 
 abbrev pub invariant-loop-turn : goal.invariant-loop-turn

@@ -1,9 +1,6 @@
-use Rattle.std.proofs.Common.{◌≡◌, ◌∙◌, ℕ, ◌+◌, ◌*◌, ◌%◌, ◌<◌, ◌≤◌, ap, arith, length, take}
-use Rattle.std.proofs.lemmas.List.{length-take-le}
+use Rattle.std.proofs.{Common.{◌≡◌, ◌∙◌, ℕ, ◌+◌, ◌*◌, ◌%◌, ◌<◌, ◌≤◌, ap, arith, length, take}, lemmas.List.length-take-le}
 use Rattle.verity_plan.specs.Settings.{fan}
-use Rattle.verity_blocks.specs.ClosingOrder.{closed_after}
-use Rattle.verity_blocks.specs.Windows.{window_blocks, window_length}
-use Rattle.verity_blocks.proofs.Windows.LastByte.{last-below}
+use Rattle.verity_blocks.{specs.{ClosingOrder.closed_after, Windows.{window_blocks, window_length}}, proofs.Windows.LastByte.last-below}
 use Rattle.verity_blocks.proofs.Windows.BytesToWindow.{HasFed-filled, closed_after-placed, windows_before-filled}
 use Rattle.verity_builders.proofs.feeding.pieces.take_bytes.Goals as goal
 

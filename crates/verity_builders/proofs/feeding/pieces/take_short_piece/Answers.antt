@@ -1,13 +1,8 @@
 use Rattle.std.proofs.Common.{◌≡◌, ◌∙◌, ℕ, ◌+◌, ◌-◌, ◌*◌, ◌^◌, ◌/◌, ◌%◌, ◌<◌, ◌≤◌, ◌++◌, List, ap, arith, inr, length, subst, sym, take}
-use Rattle.std.proofs.lemmas.List.{take_all}
-use Rattle.std.proofs.Math.Nat.{div-mul-le_self}
-use Rattle.std.proofs.lemmas.Nat.{div-add-mod', mod_below}
-use Rattle.verity_plan.proofs.FitLemmas.{power_of_two-exponent}
-use Rattle.verity_plan.specs.Settings.{TreeSettingsFields}
-use Rattle.verity_blocks.specs.Steps.Feeding.{HasFed, HasWindow, IsSettled, windows_before}
-use Rattle.verity_blocks.specs.Windows.{window_length}
-use Rattle.verity_blocks.proofs.ClosingSteps.Advancing.{partial-quotient}
-use Rattle.verity_blocks.proofs.Windows.BytesToWindow.{HasFed-filled}
+use Rattle.std.proofs.{lemmas.{List.take_all, Nat.{div-add-mod', mod_below}}, Math.Nat.div-mul-le_self}
+use Rattle.verity_plan.{proofs.FitLemmas.power_of_two-exponent, specs.Settings.TreeSettingsFields}
+use Rattle.verity_blocks.specs.{Steps.Feeding.{HasFed, HasWindow, IsSettled, windows_before}, Windows.window_length}
+use Rattle.verity_blocks.proofs.{ClosingSteps.Advancing.partial-quotient, Windows.BytesToWindow.HasFed-filled}
 use Rattle.verity_builders.proofs.feeding.pieces.take_short_piece.Goals as goal
 
 -- a piece that has room in the window is put after the bytes that are in it

@@ -1,10 +1,6 @@
 -- All of a piece is taken.
-use Rattle.std.proofs.Common.{◌≡◌, ℕ, ◌+◌, ◌-◌, ◌*◌, ◌<◌, ◌≤◌, ◌++◌, length, take, arith}
-use Rattle.std.proofs.Common.{inl, inr, append_assoc}
-use Rattle.std.proofs.lemmas.Bool.{cases_lt}
-use Rattle.std.proofs.lemmas.List.{take_all}
-use Rattle.verity_plan.specs.PlanCounts.{level_count_of}
-use Rattle.verity_plan.proofs.CountLemmas.{mul_le}
+use Rattle.std.proofs.{Common.{◌≡◌, ℕ, ◌+◌, ◌-◌, ◌*◌, ◌<◌, ◌≤◌, ◌++◌, length, take, arith, inl, inr, append_assoc}, lemmas.Bool.cases_lt}
+use Rattle.{std.proofs.lemmas.List.take_all, verity_plan.{specs.PlanCounts.level_count_of, proofs.CountLemmas.mul_le}}
 use Rattle.verity_blocks.proofs.ClosingSteps.Advancing.{length-fed, take-of_rest}
 use Rattle.verity_builders.proofs.feeding.steps.feed_all.Goals as goal
 

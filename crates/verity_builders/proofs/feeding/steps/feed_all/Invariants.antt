@@ -1,5 +1,4 @@
-use Rattle.std.proofs.Common.{length, ◌-◌, ◌≡◌, ℕ, ◌+◌, ◌*◌, ◌≤◌, ◌++◌, List, take}
-use Rattle.verity_plan.specs.PlanCounts.{level_count_of}
+use Rattle.{std.proofs.Common.{length, ◌-◌, ◌≡◌, ℕ, ◌+◌, ◌*◌, ◌≤◌, ◌++◌, List, take}, verity_plan.specs.PlanCounts.level_count_of}
 use Rattle.verity_blocks.specs.Steps.Feeding.{HasFed, Stands}
 use Rattle.verity_builders.proofs.feeding.steps.feed_all.Given as goal
 

@@ -1,6 +1,5 @@
 -- Bytes are taken until a hash block closes.
-use Rattle.std.proofs.Common.{◌≡◌, ◌++◌, false, eqb, length, take, arith}
-use Rattle.std.proofs.lemmas.Bool.Decides.{nat_tests}
+use Rattle.std.proofs.{Common.{◌≡◌, ◌++◌, false, eqb, length, take, arith}, lemmas.Bool.Decides.nat_tests}
 use Rattle.verity_blocks.proofs.ClosingSteps.Advancing.{FeedsOn-more, length-fed, take-of_rest}
 use Rattle.verity_builders.proofs.feeding.steps.feed_before_end.Goals as goal
 

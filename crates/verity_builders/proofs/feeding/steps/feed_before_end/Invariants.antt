@@ -1,5 +1,4 @@
-use Rattle.std.proofs.Common.{length, ◌-◌, ◌≡◌, ℕ, ◌+◌, ◌*◌, ◌<◌, ◌≤◌, List, take, false}
-use Rattle.verity_plan.specs.PlanCounts.{level_count_of}
+use Rattle.{std.proofs.Common.{length, ◌-◌, ◌≡◌, ℕ, ◌+◌, ◌*◌, ◌<◌, ◌≤◌, List, take, false}, verity_plan.specs.PlanCounts.level_count_of}
 use Rattle.verity_blocks.specs.Steps.Feeding.{FeedsOn, Stands}
 use Rattle.verity_builders.proofs.feeding.steps.feed_before_end.Given as goal
 

@@ -1,6 +1,5 @@
 -- Bytes are taken until a hash block closes, and with the last byte of all one closes without bytes.
-use Rattle.std.proofs.Common.{◌≡◌, ◌++◌, arith, length, take}
-use Rattle.verity_blocks.proofs.ClosingSteps.Advancing.{FeedsOn-last, length-fed}
+use Rattle.{std.proofs.Common.{◌≡◌, ◌++◌, arith, length, take}, verity_blocks.proofs.ClosingSteps.Advancing.{FeedsOn-last, length-fed}}
 use Rattle.verity_builders.proofs.feeding.steps.feed_until_closed.Goals as goal
 
 pub returns-clause-stands : goal.returns-clause-stands

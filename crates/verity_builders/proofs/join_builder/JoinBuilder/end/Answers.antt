@@ -1,6 +1,5 @@
 -- The digest of the block that is left is the root hash.
-use Rattle.std.proofs.Common.{length, arith, refl, ◌∙◌, ap}
-use Rattle.verity_blocks.proofs.OpenBlocks.OpenBlock.{hash-by, length-hash}
+use Rattle.{std.proofs.Common.{length, arith, refl, ◌∙◌, ap}, verity_blocks.proofs.OpenBlocks.OpenBlock.{hash-by, length-hash}}
 use Rattle.verity_builders.proofs.Joins.JoinMemory.{root-of_part, root-of_top}
 use Rattle.verity_builders.proofs.join_builder.JoinBuilder.end.Goals as goal
 

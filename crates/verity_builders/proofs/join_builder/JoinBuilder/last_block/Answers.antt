@@ -1,5 +1,4 @@
-use Rattle.std.proofs.Common.{arith, ◌<◌}
-use Rattle.verity_builders.proofs.Joins.JoinMemory.{IsHandedOutOfJoin-last}
+use Rattle.{std.proofs.Common.{arith, ◌<◌}, verity_builders.proofs.Joins.JoinMemory.IsHandedOutOfJoin-last}
 use Rattle.verity_builders.proofs.join_builder.JoinBuilder.last_block.Goals as goal
 
 pub returns-clause-stands : goal.returns-clause-stands

@@ -1,8 +1,6 @@
-use Rattle.std.proofs.Common.{arith, ◌*◌, ◌-◌, ◌≤◌}
-use Rattle.verity_plan.proofs.FanLemmas.{digest_len_of-most}
-use Rattle.verity_builders.proofs.Trees.MemoryLengths.{open_blocks-most}
+use Rattle.{std.proofs.Common.{arith, ◌*◌, ◌-◌, ◌≤◌}, verity_plan.proofs.FanLemmas.digest_len_of-most}
+use Rattle.verity_builders.proofs.{Trees.MemoryLengths.open_blocks-most, join_builder.JoinBuilder.memory_length.Goals.After-hash_block}
 use Rattle.verity_builders.proofs.join_builder.JoinBuilder.memory_length.Goals as goal
-use Rattle.verity_builders.proofs.join_builder.JoinBuilder.memory_length.Goals.{After-hash_block}
 
 area : (c : After-hash_block) → (c.levels.result - c.args.level) * c.hash_block.result ≤ 63 * 524288
 area c =

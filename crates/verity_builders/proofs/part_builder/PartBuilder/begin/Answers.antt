@@ -1,5 +1,4 @@
-use Rattle.std.proofs.Common.{◌*◌, ◌∙◌, ◌≡◌, ℕ, ap, arith, refl, replicate}
-use Rattle.std.proofs.lemmas.List.{length-take-le}
+use Rattle.std.proofs.{Common.{◌*◌, ◌∙◌, ◌≡◌, ℕ, ap, arith, refl, replicate}, lemmas.List.length-take-le}
 use Rattle.verity_builders.proofs.Trees.TreeMemory.{HasFed-none}
 use Rattle.verity_builders.proofs.part_builder.PartBuilder.begin.Goals as goal
 

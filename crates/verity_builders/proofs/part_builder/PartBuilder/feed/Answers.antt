@@ -1,5 +1,4 @@
-use Rattle.std.proofs.Common.{refl, ◌∙◌}
-use Rattle.verity_builders.proofs.Parts.PartMemory.{FeedsPart-of, IsFedTo-part, IsTreeIn-part, piece-part}
+use Rattle.{std.proofs.Common.{refl, ◌∙◌}, verity_builders.proofs.Parts.PartMemory.{FeedsPart-of, IsFedTo-part, IsTreeIn-part, piece-part}}
 use Rattle.verity_builders.proofs.part_builder.PartBuilder.feed.Goals as goal
 
 pub feed_piece-requires-clause-tree : goal.feed_piece-requires-clause-tree

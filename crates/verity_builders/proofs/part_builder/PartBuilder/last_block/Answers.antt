@@ -1,5 +1,4 @@
-use Rattle.std.proofs.Common.{◌∙◌}
-use Rattle.verity_builders.proofs.Parts.PartMemory.{IsTreeIn-part, part-placed-last, part-stands-last, piece-part}
+use Rattle.{std.proofs.Common.◌∙◌, verity_builders.proofs.Parts.PartMemory.{IsTreeIn-part, part-placed-last, part-stands-last, piece-part}}
 use Rattle.verity_builders.proofs.part_builder.PartBuilder.last_block.Goals as goal
 
 pub last_handed_out-requires : goal.last_handed_out-requires

@@ -1,7 +1,6 @@
 use Rattle.std.proofs.Common.{arith, ◌*◌, ◌≤◌}
-use Rattle.verity_builders.proofs.Trees.MemoryLengths.{open_blocks-most}
+use Rattle.verity_builders.proofs.{Trees.MemoryLengths.open_blocks-most, part_builder.PartBuilder.memory_length.Goals.After-hash_block}
 use Rattle.verity_builders.proofs.part_builder.PartBuilder.memory_length.Goals as goal
-use Rattle.verity_builders.proofs.part_builder.PartBuilder.memory_length.Goals.{After-hash_block}
 
 area : (c : After-hash_block) → c.args.level * c.hash_block.result ≤ 63 * 524288
 area c =

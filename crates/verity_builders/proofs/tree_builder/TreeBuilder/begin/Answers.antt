@@ -1,7 +1,5 @@
-use Rattle.std.proofs.Common.{◌*◌, ◌∙◌, ◌≡◌, ℕ, ap, arith, refl, replicate}
-use Rattle.std.proofs.lemmas.List.{length-take-le}
-use Rattle.verity_plan.specs.PlanCounts.{level_count_of}
-use Rattle.verity_builders.proofs.Trees.TreeMemory.{HasFed-none}
+use Rattle.std.proofs.{Common.{◌*◌, ◌∙◌, ◌≡◌, ℕ, ap, arith, refl, replicate}, lemmas.List.length-take-le}
+use Rattle.{verity_plan.specs.PlanCounts.level_count_of, verity_builders.proofs.Trees.TreeMemory.HasFed-none}
 use Rattle.verity_builders.proofs.tree_builder.TreeBuilder.begin.Goals as goal
 
 pub returns-clause-fed : goal.returns-clause-fed

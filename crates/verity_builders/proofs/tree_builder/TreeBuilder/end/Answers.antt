@@ -1,8 +1,5 @@
-use Rattle.std.proofs.Common.{List, ℕ, ◌∙◌, ◌≡◌, get_or, []}
-use Rattle.std.proofs.lemmas.Result.{IfOk-weaker}
-use Rattle.verity_plan.specs.Settings.{hash}
-use Rattle.verity_blocks.specs.Levels.{blocks_up, data_blocks, root}
-use Rattle.verity_blocks.proofs.ClosingSteps.Asking.{left-root}
+use Rattle.{std.proofs.{Common.{List, ℕ, ◌∙◌, ◌≡◌, get_or, []}, lemmas.Result.IfOk-weaker}, verity_plan.specs.Settings.hash}
+use Rattle.verity_blocks.{specs.Levels.{blocks_up, data_blocks, root}, proofs.ClosingSteps.Asking.left-root}
 use Rattle.verity_builders.proofs.Trees.TreeMemory.{IsFedTo-tree, ending-tree}
 use Rattle.verity_builders.proofs.tree_builder.TreeBuilder.end.Goals as goal
 

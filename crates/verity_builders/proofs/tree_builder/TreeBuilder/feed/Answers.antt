@@ -1,5 +1,4 @@
-use Rattle.std.proofs.Common.{arith, refl, ◌∙◌}
-use Rattle.verity_builders.proofs.Trees.TreeMemory.{Feeds-of, IsFedTo-tree, taking-tree}
+use Rattle.{std.proofs.Common.{arith, refl, ◌∙◌}, verity_builders.proofs.Trees.TreeMemory.{Feeds-of, IsFedTo-tree, taking-tree}}
 use Rattle.verity_builders.proofs.tree_builder.TreeBuilder.feed.Goals as goal
 
 pub feed_piece-requires-clause-tree : goal.feed_piece-requires-clause-tree

@@ -1,5 +1,4 @@
-use Rattle.std.proofs.Common.{arith, refl, ◌∙◌}
-use Rattle.verity_builders.proofs.Trees.TreeMemory.{placed-last, stands-last, taking-tree}
+use Rattle.{std.proofs.Common.{arith, refl, ◌∙◌}, verity_builders.proofs.Trees.TreeMemory.{placed-last, stands-last, taking-tree}}
 use Rattle.verity_builders.proofs.tree_builder.TreeBuilder.last_block.Goals as goal
 
 pub last_handed_out-requires : goal.last_handed_out-requires

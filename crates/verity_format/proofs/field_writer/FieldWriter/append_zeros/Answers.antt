@@ -1,6 +1,5 @@
 -- Zeros stand after the fields already.
-use Rattle.std.proofs.Common.{◌++◌, replicate, ap, ◌∙◌}
-use Rattle.verity_format.proofs.FieldLemmas.{IsPadded-zeros, room_after, take-zeros}
+use Rattle.{std.proofs.Common.{◌++◌, replicate, ap, ◌∙◌}, verity_format.proofs.FieldLemmas.{IsPadded-zeros, room_after, take-zeros}}
 use Rattle.verity_format.proofs.field_writer.FieldWriter.append_zeros.Goals as goal
 
 pub invariant_of-self : goal.invariant_of-self

@@ -1,10 +1,6 @@
-use Rattle.std.proofs.Common.{◌≡◌, ◌*◌, ◌+◌, ◌-◌, ◌/◌, ◌<◌, ◌≤◌, [], length, take}
-use Rattle.verity_io.specs.Reading.{HasRead}
+use Rattle.{std.proofs.Common.{◌≡◌, ◌*◌, ◌+◌, ◌-◌, ◌/◌, ◌<◌, ◌≤◌, [], length, take}, verity_io.specs.Reading.HasRead}
 use Rattle.verity_plan.specs.PlanCounts.{level_count_of}
-use Rattle.verity_blocks.specs.ClosingOrder.{handed_out}
-use Rattle.verity_blocks.specs.Levels.{data_blocks}
-use Rattle.verity_blocks.specs.Steps.Feeding.{Stands}
-use Rattle.verity_blocks.specs.Windows.{window_length}
+use Rattle.verity_blocks.specs.{ClosingOrder.handed_out, Levels.data_blocks, Steps.Feeding.Stands, Windows.window_length}
 use Rattle.verity_pass.proofs.pass.one_pass.pass_over_windows.Given as goal
 
 -- so many bytes were read, and the hash blocks of so many levels above the last of them were handed on

@@ -1,5 +1,4 @@
-use Rattle.std.proofs.Common.{◌-◌, ◌≡◌, ◌*◌, ◌/◌, ◌<◌, List, ◌+◌, ◌≤◌, ℕ, take, drop, min, length}
-use Rattle.verity_io.specs.Reading.{HasRead}
+use Rattle.{std.proofs.Common.{◌-◌, ◌≡◌, ◌*◌, ◌/◌, ◌<◌, List, ◌+◌, ◌≤◌, ℕ, take, drop, min, length}, verity_io.specs.Reading.HasRead}
 use Rattle.verity_pass.proofs.pass.reading.read_window.Given as goal
 
 -- the bytes up to a data block of the window were read

@@ -1,6 +1,4 @@
-use Rattle.std.proofs.Common.{◌≡◌, ◌^◌}
-use Rattle.std.specs.Int.{div_ceil}
-use Rattle.verity_plan.specs.Settings.{fan}
+use Rattle.{std.{proofs.Common.{◌≡◌, ◌^◌}, specs.Int.div_ceil}, verity_plan.specs.Settings.fan}
 use Rattle.verity_plan.proofs.plan.Plan.count_under.Given as goal
 
 abbrev pub invariant-loop-below : goal.invariant-loop-below

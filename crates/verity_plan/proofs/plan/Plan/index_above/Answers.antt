@@ -1,6 +1,4 @@
-use Rattle.std.proofs.Common.{◌≡◌, ℕ, ◌/◌, ◌^◌, ap, sym, ◌∙◌}
-use Rattle.verity_plan.specs.Settings.{fan}
-use Rattle.verity_plan.proofs.IndexLemmas.{quotient-next}
+use Rattle.{std.proofs.Common.{◌≡◌, ℕ, ◌/◌, ◌^◌, ap, sym, ◌∙◌}, verity_plan.{specs.Settings.fan, proofs.IndexLemmas.quotient-next}}
 use Rattle.verity_plan.proofs.plan.Plan.index_above.Goals as goal
 
 pub loop-below-preserved : goal.loop-below-preserved

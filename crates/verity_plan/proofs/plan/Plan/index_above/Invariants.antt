@@ -1,5 +1,4 @@
-use Rattle.std.proofs.Common.{◌≡◌, ◌/◌, ◌^◌}
-use Rattle.verity_plan.specs.Settings.{fan}
+use Rattle.{std.proofs.Common.{◌≡◌, ◌/◌, ◌^◌}, verity_plan.specs.Settings.fan}
 use Rattle.verity_plan.proofs.plan.Plan.index_above.Given as goal
 
 abbrev pub invariant-loop-below : goal.invariant-loop-below

@@ -1,8 +1,5 @@
-use Rattle.std.proofs.Common.{ℕ, ◌<◌, arith, ap, ◌∙◌, refl}
-use Rattle.std.specs.Int.{div_ceil}
-use Rattle.verity_plan.specs.PlanCounts.{count_under}
-use Rattle.verity_plan.specs.Settings.{fan}
-use Rattle.verity_plan.proofs.PlanLemmas.{count-more}
+use Rattle.std.{proofs.Common.{ℕ, ◌<◌, arith, ap, ◌∙◌, refl}, specs.Int.div_ceil}
+use Rattle.verity_plan.{specs.{PlanCounts.count_under, Settings.fan}, proofs.PlanLemmas.count-more}
 use Rattle.verity_plan.proofs.plan.Plan.level_size.Goals as goal
 
 pub returns : goal.returns

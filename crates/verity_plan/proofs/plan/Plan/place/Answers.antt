@@ -1,10 +1,6 @@
-use Rattle.std.proofs.Common.{◌≡◌, ℕ, ◌+◌, ◌-◌, ◌<◌, arith, ◌∙◌, ap, subst}
-use Rattle.std.specs.Int.{div_ceil}
-use Rattle.verity_plan.specs.Plans.{level_size, blocks_from, IsPlan}
-use Rattle.verity_plan.specs.PlanCounts.{level_count_of}
-use Rattle.verity_plan.specs.Settings.{fan}
-use Rattle.verity_plan.proofs.PlaceLemmas.{blocks_from-level, PlacesAreOnce-all}
-use Rattle.verity_plan.proofs.PlanLemmas.{count-more, levels_few, end_few}
+use Rattle.std.{proofs.Common.{◌≡◌, ℕ, ◌+◌, ◌-◌, ◌<◌, arith, ◌∙◌, ap, subst}, specs.Int.div_ceil}
+use Rattle.verity_plan.specs.{Plans.{level_size, blocks_from, IsPlan}, PlanCounts.level_count_of, Settings.fan}
+use Rattle.verity_plan.proofs.{PlaceLemmas.{blocks_from-level, PlacesAreOnce-all}, PlanLemmas.{count-more, levels_few, end_few}}
 use Rattle.verity_plan.proofs.plan.Plan.place.Goals as goal
 
 pub overflow_add-below-end : goal.overflow_add-below-end

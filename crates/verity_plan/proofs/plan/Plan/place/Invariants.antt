@@ -1,8 +1,5 @@
-use Rattle.std.proofs.Common.{◌≡◌, ◌+◌, ◌-◌, ◌^◌}
-use Rattle.std.specs.Int.{div_ceil}
-use Rattle.verity_plan.specs.Plans.{blocks_from}
-use Rattle.verity_plan.specs.PlanCounts.{level_count_of}
-use Rattle.verity_plan.specs.Settings.{fan}
+use Rattle.std.{proofs.Common.{◌≡◌, ◌+◌, ◌-◌, ◌^◌}, specs.Int.div_ceil}
+use Rattle.verity_plan.specs.{Plans.blocks_from, PlanCounts.level_count_of, Settings.fan}
 use Rattle.verity_plan.proofs.plan.Plan.place.Given as goal
 
 -- the levels from this one upward stand before this place

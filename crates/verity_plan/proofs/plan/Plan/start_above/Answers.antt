@@ -1,8 +1,5 @@
 use Rattle.std.proofs.Common.{arith, sym, subst}
-use Rattle.verity_plan.specs.Plans.{HasBlock}
-use Rattle.verity_plan.proofs.FanLemmas.{fan-some}
-use Rattle.verity_plan.proofs.IndexLemmas.{HasBlock-above}
-use Rattle.verity_plan.proofs.PlanLemmas.{levels_few}
+use Rattle.verity_plan.{specs.Plans.HasBlock, proofs.{FanLemmas.fan-some, IndexLemmas.HasBlock-above, PlanLemmas.levels_few}}
 use Rattle.verity_plan.proofs.plan.Plan.start_above.Goals as goal
 
 pub overflow_add-level : goal.overflow_add-level

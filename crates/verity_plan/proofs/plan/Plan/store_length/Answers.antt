@@ -1,5 +1,4 @@
-use Rattle.std.proofs.Common.{ℕ, ◌*◌, arith, ap}
-use Rattle.verity_plan.proofs.PlanLemmas.{store_few}
+use Rattle.{std.proofs.Common.{ℕ, ◌*◌, arith, ap}, verity_plan.proofs.PlanLemmas.store_few}
 use Rattle.verity_plan.proofs.plan.Plan.store_length.Goals as goal
 
 pub overflow_mul-result : goal.overflow_mul-result

@@ -1,7 +1,5 @@
-use Rattle.std.proofs.Common.{◌≡◌, ◌∙◌, ℕ, ap, refl, Bool, true, false, cond, Option, Some, None}
-use Rattle.std.proofs.Common.{◌%◌, ◌==◌, sym, subst, arith}
-use Rattle.std.proofs.lemmas.Bool.Decides.{nat_tests}
-use Rattle.verity_plan.specs.Plans.{PlanFields, multiple_of}
+use Rattle.std.proofs.Common.{◌≡◌, ◌∙◌, ℕ, ap, refl, Bool, true, false, cond, Option, Some, None, ◌%◌, ◌==◌, sym, subst, arith}
+use Rattle.{std.proofs.lemmas.Bool.Decides.nat_tests, verity_plan.specs.Plans.{PlanFields, multiple_of}}
 use Rattle.veritysetup.proofs.ChosenPlanLemmas.{accepted_plan-is, plan_is}
 use Rattle.veritysetup.proofs.options.settings.settings_of.Goals as goal
 

@@ -1,5 +1,4 @@
-use Rattle.std.proofs.Common.{refl, ◌≡◌, ◌∙◌, ◌↔◌, Option, Some, None, Result, Ok, Err, IfOk, IsOk}
-use Rattle.std.specs.Result.{result_ok}
+use Rattle.std.{proofs.Common.{refl, ◌≡◌, ◌∙◌, ◌↔◌, Option, Some, None, Result, Ok, Err, IfOk, IsOk}, specs.Result.result_ok}
 use Rattle.veritysetup.proofs.options.uuids.read_uuid.Goals as goal
 
 ok_is : {X E : Type 0} (r : Result X E) (o : Option X) → IsOk r ↔ ((u : X) × (o ≡ Some u)) → IfOk r (λ u. Some u ≡ o) → result_ok r ≡ o

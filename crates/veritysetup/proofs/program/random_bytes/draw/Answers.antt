@@ -1,7 +1,5 @@
 use Rattle.std.proofs.Common.{rules, arith, refl, ap, ap₂, sym, ◌≡◌, ◌∙◌, ◌*◌, ◌+◌, ◌++◌, ℕ, List, take, length, add-one, take_all}
-use Rattle.std.proofs.lemmas.Slice.{overwrites, take-put_mid}
-use Rattle.std.specs.Int.{bytes_low_first}
-use Rattle.rand_core.specs.Stream.{Stream, next_u64}
+use Rattle.{std.{proofs.lemmas.Slice.{overwrites, take-put_mid}, specs.Int.bytes_low_first}, rand_core.specs.Stream.{Stream, next_u64}}
 use Rattle.veritysetup.specs.Program.RandomBytes.{number_bytes}
 use Rattle.veritysetup.proofs.program.random_bytes.draw.Goals as goal
 

@@ -1,5 +1,4 @@
-use Rattle.std.proofs.Common.{◌≡◌, ◌*◌, take, length}
-use Rattle.veritysetup.specs.Program.RandomBytes.{number_bytes}
+use Rattle.{std.proofs.Common.{◌≡◌, ◌*◌, take, length}, veritysetup.specs.Program.RandomBytes.number_bytes}
 use Rattle.veritysetup.proofs.program.random_bytes.draw.Given as goal
 
 abbrev pub invariant-loop-k : goal.invariant-loop-k

@@ -1,8 +1,5 @@
-use Rattle.std.proofs.Common.{◌∙◌, ◌≡◌, ap, refl, List, ℕ}
-use Rattle.command_line.proofs.Prefixes.{Keeps-refl}
-use Rattle.verity_blocks.specs.Levels.{root, data_blocks}
-use Rattle.verity_plan.specs.Plans.{PlanFields}
-use Rattle.veritysetup.specs.Runs.Formatted.{root_above}
+use Rattle.{std.proofs.Common.{◌∙◌, ◌≡◌, ap, refl, List, ℕ}, command_line.proofs.Prefixes.Keeps-refl, verity_plan.specs.Plans.PlanFields}
+use Rattle.{verity_blocks.specs.Levels.{root, data_blocks}, veritysetup.specs.Runs.Formatted.root_above}
 use Rattle.veritysetup.proofs.runs.format.format.Goals as goal
 
 -- equal plans give equal root hashes

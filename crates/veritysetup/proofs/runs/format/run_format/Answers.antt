@@ -1,10 +1,6 @@
-use Rattle.std.proofs.Common.{subst, sym, Result}
-use Rattle.verity_blocks.specs.Levels.{data_blocks}
-use Rattle.veritysetup.specs.Runs.Format.{Formatted, PrintsReport, Reads, Writes}
-use Rattle.veritysetup.specs.Runs.Formatted.{IsFormattedDevice, format_report}
-use Rattle.veritysetup.specs.declared.fault.Fault.{Fault}
-use Rattle.veritysetup.proofs.FormattedLemmas.{written-formatted}
-use Rattle.veritysetup.proofs.SettingsLemmas.{AreValid}
+use Rattle.{std.proofs.Common.{subst, sym, Result}, verity_blocks.specs.Levels.data_blocks}
+use Rattle.veritysetup.specs.Runs.{Format.{Formatted, PrintsReport, Reads, Writes}, Formatted.{IsFormattedDevice, format_report}}
+use Rattle.veritysetup.{specs.declared.fault.Fault.Fault, proofs.{FormattedLemmas.written-formatted, SettingsLemmas.AreValid}}
 use Rattle.veritysetup.proofs.runs.format.run_format.Goals as goal
 
 pub returns-clause-formatted : goal.returns-clause-formatted

@@ -1,7 +1,5 @@
-use Rattle.std.proofs.Common.{◌≡◌, ℕ, ◌*◌, Bool, true, false, cond, Option, Some, None, Ok, Err, ap, sym}
-use Rattle.std.specs.Prelude.{◌==◌}
-use Rattle.verity_plan.specs.Plans.{PlanFields, base_of, has_room, plan_at, plan_from}
-use Rattle.verity_plan.specs.Settings.{TreeSettingsFields}
+use Rattle.std.{proofs.Common.{◌≡◌, ℕ, ◌*◌, Bool, true, false, cond, Option, Some, None, Ok, Err, ap, sym}, specs.Prelude.◌==◌}
+use Rattle.verity_plan.specs.{Plans.{PlanFields, base_of, has_room, plan_at, plan_from}, Settings.TreeSettingsFields}
 use Rattle.verity_plan.specs.declared.plan_fault.PlanFault.TheVariants.{NoData, TooLarge}
 
 -- a plan's tree is the one that it was asked for

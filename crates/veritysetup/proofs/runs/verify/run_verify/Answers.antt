@@ -1,7 +1,5 @@
-use Rattle.std.proofs.Common.{subst, Result}
-use Rattle.verity_pass.proofs.HeldTree.{right-holds_enough}
-use Rattle.veritysetup.specs.Runs.Verify.{Verified, Verifies}
-use Rattle.veritysetup.specs.declared.fault.Fault.{Fault}
+use Rattle.{std.proofs.Common.{subst, Result}, verity_pass.proofs.HeldTree.right-holds_enough}
+use Rattle.veritysetup.specs.{Runs.Verify.{Verified, Verifies}, declared.fault.Fault.Fault}
 use Rattle.veritysetup.proofs.runs.verify.run_verify.Goals as goal
 
 pub returns-clause-verified : goal.returns-clause-verified

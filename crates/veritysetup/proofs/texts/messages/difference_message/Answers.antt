@@ -1,5 +1,4 @@
-use Rattle.std.proofs.Common.{◌∙◌, append_assoc}
-use Rattle.std.proofs.lemmas.Result.{IfOk-weaker}
+use Rattle.std.proofs.{Common.{◌∙◌, append_assoc}, lemmas.Result.IfOk-weaker}
 use Rattle.veritysetup.proofs.texts.messages.difference_message.Goals as goal
 
 pub returns-in-Child : goal.returns-in-Child

@@ -1,6 +1,4 @@
-use Rattle.std.proofs.Common.{◌∙◌, ap}
-use Rattle.std.proofs.lemmas.Result.{on_ok_weaker}
-use Rattle.hex.specs.Hex.{encode_lower}
+use Rattle.{std.proofs.{Common.{◌∙◌, ap}, lemmas.Result.on_ok_weaker}, hex.specs.Hex.encode_lower}
 use Rattle.veritysetup.proofs.texts.reports.push_root.Goals as goal
 
 pub returns-in_ok-digits-in-Some : goal.returns-in_ok-digits-in-Some

@@ -1,9 +1,6 @@
-use Rattle.std.proofs.Common.{◌≡◌, ◌∙◌, ap, refl, List, ℕ, ◌++◌, Option}
-use Rattle.verity_format.specs.Superblocks.{SuperblockFields}
-use Rattle.verity_hash.specs.Hashing.{name_of}
-use Rattle.verity_plan.specs.Settings.{TreeSettingsFields}
-use Rattle.veritysetup.specs.Texts.ReportSteps.{with_hash, with_device, with_sizes}
-use Rattle.veritysetup.specs.Texts.Reports.{salt_text, title, root_line, report_text}
+use Rattle.{std.proofs.Common.{◌≡◌, ◌∙◌, ap, refl, List, ℕ, ◌++◌, Option}, verity_format.specs.Superblocks.SuperblockFields}
+use Rattle.{verity_hash.specs.Hashing.name_of, verity_plan.specs.Settings.TreeSettingsFields}
+use Rattle.veritysetup.specs.Texts.{ReportSteps.{with_hash, with_device, with_sizes}, Reports.{salt_text, title, root_line, report_text}}
 use Rattle.veritysetup.proofs.texts.reports.report_with.Goals as goal
 
 -- the report from the texts after each of its parts

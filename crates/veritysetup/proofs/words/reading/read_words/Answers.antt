@@ -1,16 +1,11 @@
 use Rattle.std.proofs.Common.{refl, ap, subst, ◌≡◌, ◌∙◌, true, List, [], ◌∷◌, map, sym, Some, option_map, Result, Ok, Err}
-use Rattle.clap.specs.Words.{App, HasMatchesOf, Row, Text, app_of, found_of, is_simple, is_simple_and_free, rows_of}
-use Rattle.clap.specs.Words.{subcommand_name_of, subcommand_of, subcommand_rows_of}
-use Rattle.clap.specs.declared.builder.command.Command.{Command}
-use Rattle.clap.specs.declared.error.Error.{Error}
-use Rattle.clap.specs.declared.parser.matches.ArgMatches.{ArgMatches}
-use Rattle.clap.proofs.OnLiterals.{clap_on_literals}
-use Rattle.command_line.specs.Arguments.{Defines}
-use Rattle.command_line.proofs.Causes.{caused, fails_by}
-use Rattle.command_line.proofs.Named.{IsOneOf, met_is_own, met_of, none_of, sub_names}
+use Rattle.clap.specs.Words.{App, HasMatchesOf, Row, Text, app_of, found_of, is_simple, is_simple_and_free, rows_of, subcommand_name_of}
+use Rattle.clap.specs.{Words.{subcommand_of, subcommand_rows_of}, declared.{builder.command.Command.Command, error.Error.Error}}
+use Rattle.clap.{specs.declared.parser.matches.ArgMatches.ArgMatches, proofs.OnLiterals.clap_on_literals}
+use Rattle.command_line.specs.{Arguments.Defines, declared.words.line_fault.LineFault.TheVariants.{Memory, Refused}}
+use Rattle.command_line.proofs.{Causes.{caused, fails_by}, Named.{IsOneOf, met_is_own, met_of, none_of, sub_names}}
 use Rattle.veritysetup.specs.Words.CommandLines.{command_text, dump_app, format_app, verify_app, veritysetup_app}
 use Rattle.veritysetup.specs.declared.words.command_name.CommandName.TheVariants.{Format, Dump, Verify}
-use Rattle.command_line.specs.declared.words.line_fault.LineFault.TheVariants.{Memory, Refused}
 use Rattle.veritysetup.proofs.words.reading.read_words.Goals as goal
 
 app_is_simple : is_simple veritysetup_app ≡ true
