@@ -12,13 +12,19 @@ import os
 import re
 import sys
 
-TOP = os.path.join(os.path.dirname(os.path.abspath(__file__)), "..", "crates")
+HERE = os.path.dirname(os.path.abspath(__file__))
+sys.dont_write_bytecode = True
+sys.path.insert(0, f"{HERE}/wrong_bodies")
+
+from reach import entries
+
+TOP = f"{HERE}/../crates"
 CLAUSES = [
     ("veritysetup/src/runs/format.rt", "formatted"),
     ("veritysetup/src/runs/verify.rt", "verified"),
     ("fsverity/src/runs/digest.rt", "printed"),
 ]
-IMPORT = re.compile(r"^(?:pub )?(?:ghost )?use (Rattle\.[A-Za-z0-9_.]+?)(?:\.\{([^}]*)\})?(?: as ([A-Za-z_0-9]+))?;?$")
+IMPORT = re.compile(r"^(?:pub )?(?:ghost )?use (Rattle\..*?);?$")
 HEAD = re.compile(r"^(?:unfoldable |abbrev )?(?:pub )?(?:record |data )?([A-Za-z_][A-Za-z0-9_]*)\b")
 WORD = re.compile(r"[A-Za-z_][A-Za-z0-9_]*(?:\.[A-Za-z_][A-Za-z0-9_]*)*")
 KEYWORDS = {"pub", "record", "data", "where", "let", "in", "if", "then", "else", "abbrev", "unfoldable", "do"}
@@ -33,13 +39,13 @@ class File:
         for line in open(path, encoding="utf-8").read().split("\n") + [""]:
             found = IMPORT.match(line)
             if found:
-                module, names, alias = found.groups()
-                if names is not None:
-                    for name in names.split(","):
-                        name = name.strip().split(" as ")
-                        self.names[name[-1]] = (module, name[0])
-                else:
-                    self.modules[alias or module.split(".")[-1]] = module
+                for path in entries(found[1]):
+                    path, _, alias = path.partition(" as ")
+                    module, _, name = path.rpartition(".")
+                    if "{" in found[1]:
+                        self.names[alias or name] = (module, name)
+                    else:
+                        self.modules[alias or name] = path
             elif line.strip():
                 block.append(line)
             else:
