@@ -88,6 +88,19 @@ over_proved() {
     )
 }
 
+# with_instructions TO [WORDS FEATURES]: makes TO a folder like the toolchain's, for over_proved, whose clang puts SHA
+# instructions in the place of their models. For 64-bit ARM it takes further words too: WORDS are C strings with a comma
+# after each, and FEATURES are what they mean in LLVM's language, with a comma before each.
+with_instructions() {
+    local from file
+    from=$(dirname "$(rt doc)")/toolchain && mkdir -p "$1/bin" && cp -r "$from/lib" "$1/lib" || return
+    for file in "$from"/bin/*; do
+        if [ "${file##*/}" != clang ]; then ln -s "$file" "$1/bin/" || return; fi
+    done
+    cc -O1 -Wall -Wextra -D_GNU_SOURCE -DTOOLCHAIN="\"$from\"" -DFOLDER="\"$PWD/instructions\"" -DWORDS="${2:-}" \
+        -DFEATURES="\"${3:-}\"" instructions/clang_with_instructions.c -o "$1/bin/clang"
+}
+
 # The programs. A build of them is described by three words: TARGET is x86_64 or aarch64; CPU is a processor of x86-64,
 # or `any` for a program that has code for each of $levels and chooses when it begins, and is empty for aarch64; STATIC
 # is yes or no.

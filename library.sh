@@ -50,7 +50,7 @@ scratch=$(mktemp -d)
 trap 'rm -rf "$scratch"' EXIT
 
 # What a library is built of, before one is: a source that changes meanwhile has changed.
-of=$({ sources && cat library.sh building.sh clang_for_arm.c; } | sha256sum)
+of=$({ sources && cat library.sh building.sh instructions/*; } | sha256sum)
 
 # stays FILE FOR: whether the file was built for this, and nothing has changed. Says so.
 stays() {
@@ -89,31 +89,20 @@ archive() {
     if [ "$1" != "$native" ]; then proves "$1" "$to"; else cp "crates/$crate/out/lib$crate.a" "$to"; fi
 }
 
-# toolchain_for_arm FOLDER FLAG..: makes a folder like the toolchain's, whose clang takes these flags too for 64-bit
-# ARM.
-toolchain_for_arm() {
-    local to=$1 from file flags
-    shift
-    from=$(dirname "$(rt doc)")/toolchain
-    mkdir -p "$to/bin"
-    cp -r "$from/lib" "$to/lib"
-    for file in "$from"/bin/*; do
-        if [ "${file##*/}" != clang ]; then ln -s "$file" "$to/bin/"; fi
-    done
-    printf -v flags '"%s",' "$@"
-    cc -O1 -Wall -Wextra -DTOOLCHAIN="\"$from\"" -DFLAGS="$flags" clang_for_arm.c -o "$to/bin/clang" \
-        >"$scratch/said" 2>&1 || failed "clang_for_arm.c can't be compiled"
-}
-
 # proves CPU TO: proves and compiles the library over the crates below as they have been proved.
 proves() {
-    local tools=
+    local tools=()
     # x18 is the platform's: U-Boot's `gd`, Android's shadow call stack.
     case $1 in
-    aarch64) tools=$scratch/$1 && toolchain_for_arm "$tools" -ffixed-x18 ;;
-    aarch64-strict-align) tools=$scratch/$1 && toolchain_for_arm "$tools" -ffixed-x18 -mstrict-align ;;
+    aarch64) tools=('"-ffixed-x18",' ',+reserve-x18') ;;
+    aarch64-strict-align) tools=('"-ffixed-x18","-mstrict-align",' ',+reserve-x18,+strict-align') ;;
     esac
-    over_proved "$crate" "${1%-strict-align}" "$2" "${KEPT:-$scratch/kept}" ${tools:+"$tools"} >"$scratch/said" 2>&1 &&
+    if [ ${#tools[@]} -gt 0 ]; then
+        with_instructions "$scratch/$1" "${tools[@]}" >"$scratch/said" 2>&1 ||
+            failed "instructions/clang_with_instructions.c can't be compiled"
+        tools=("$scratch/$1")
+    fi
+    over_proved "$crate" "${1%-strict-align}" "$2" "${KEPT:-$scratch/kept}" "${tools[@]}" >"$scratch/said" 2>&1 &&
         grep -q '^logic=proved ' "$scratch/said" || failed "the library is not proved or not built for $1"
     echo "    $crate is proved for $1"
 }

@@ -78,7 +78,7 @@ add_tests() {
             tests/recipes.sh
     done
     for build in "${kinds[@]}"; do add_kind "$build"; done
-    parts+=(tests/bindings/*.sh tests/install.sh tests/completion.sh tests/running.sh tests/kinds.sh "$memory")
+    parts+=(tests/instructions.sh tests/bindings/*.sh tests/install.sh tests/completion.sh tests/running.sh tests/kinds.sh "$memory")
     free+=(tests/definitions.sh tests/pictures.sh tests/runtime.sh tests/any_processor.sh)
 }
 

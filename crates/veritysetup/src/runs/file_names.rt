@@ -6,8 +6,11 @@ use command_line::{MeasuredFile, OpenedFile};
 /// The paths of an opened data file and an opened hash device, and the length of the data.
 #[derive(Clone, Copy)]
 pub(crate) struct FileNames<'p> {
+    /// The path of the data.
     pub data: &'p str,
+    /// How many bytes of data there are.
     pub length: u64,
+    /// The path of the hash device.
     pub hash: &'p str,
 }
 

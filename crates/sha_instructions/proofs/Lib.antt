@@ -1,0 +1,3 @@
+pub mod Rounds1
+pub mod Rounds256
+pub mod Rounds512

@@ -1,0 +1,17 @@
+use Rattle.std.proofs.Common.{◌≡◌, ap, subst, ◌∙◌, arith}
+use Rattle.sha_instructions.{specs.Sha512Vectors.Has, proofs.Rounds512.{hash_start, hash_more, length-hash_after}}
+use Rattle.sha2.specs.Sha512 as S512
+use Rattle.sha_instructions.proofs.sha_512.take_blocks.Goals as goal
+
+pub loop-k-init : goal.loop-k-init
+loop-k-init c = subst (Has c.pack-h.result) (hash_start c.args.state.now c.args.blocks.now) c.pack-h.ensures
+
+pub loop-k-preserved : goal.loop-k-preserved
+loop-k-preserved c =
+    subst (Has c.compress-h.result) (hash_more c.args.state.now c.args.blocks.now c.loop-k.k) (c.compress-h.ensures _ c.loop-k.invariant)
+
+pub returns : goal.returns
+returns c =
+    let end : c.loop-k.k ≡ c.args.count = omega arith in
+    c.unpack.ensures _ (length-hash_after c.args.state.now c.args.blocks.now c.loop-k.k c.told-state) c.loop-k.invariant
+    ∙ ap (S512.hash_after c.args.state.now c.args.blocks.now) end
