@@ -1,8 +1,7 @@
 -- Tables from which a command or a program is made, entry by entry.
 use Rattle.std.proofs.Common.{◌≡◌, ◌∙◌, ◌||◌, ◌+◌, ◌<◌, ℕ, ap, ap₂, sym, false, true, fold, get_or, length, List, [], ◌∷◌, map, take}
-use Rattle.{std.proofs.lemmas.List.{Folds.fold-map, Sums.fold_more}, clap.specs.declared.builder.command.Command.Command}
-use Rattle.clap.specs.{Words.{AddsArg, AddsSubcommand, App, Rule, rule_of, with_rule}, declared.builder.arg.Arg.Arg}
-use Rattle.command_line.specs.Arguments.{Defines, with_command}
+use Rattle.{std.proofs.lemmas.List.{Folds.fold-map, Sums.fold_more}, command_line.specs.Arguments.{Defines, with_command}}
+use Rattle.clap.specs.{declared.builder.{command.Command.Command, arg.Arg.Arg}, Words.{AddsArg, AddsSubcommand, App, Rule, rule_of, with_rule}}
 
 -- one more entry of a table
 fold_entry : {X Y E : Type 0} (f : Y → X → Y) (of : E → X) (y : Y) (entries : List E) (i : ℕ) (d : E) → i < length entries

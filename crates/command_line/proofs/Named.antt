@@ -1,11 +1,11 @@
 -- The command that a parse enters is one of the program's own.
-use Rattle.std.proofs.Common.{◌≡◌, ◌≢◌, ◌∙◌, ap, ap₂, refl, sym, subst, Bool, true, false, cond, List, [], ◌∷◌, map, Option, Some, None}
-use Rattle.std.{proofs.{Common.{option_map, inl, inr, ◌⊎◌}, lemmas.Bool.or_right}, specs.{Prelude.Box, Box.box_value, List.find}}
+use Rattle.std.proofs.Common.{◌≡◌, ◌≢◌, ◌∙◌, ap, ap₂, refl, sym, subst, Bool, true, false, cond, List, [], ◌∷◌, map, Option, Some, None, option_map}
+use Rattle.std.{proofs.{Common.{inl, inr, ◌⊎◌}, lemmas.Bool.or_right}, specs.{Prelude.Box, Box.box_value, List.find}}
 use Rattle.clap.specs.Words.{App, HasMatchesOf, Row, Shape, Text, built, is_simple, subcommand_name_of, subcommand_of, subcommand_rows}
-use Rattle.clap.specs.{Words.{subcommand_rows_of, with_subcommand}, Walk.answers_to}
-use Rattle.clap.specs.Simple.{built_above, built_leaf, entered, help_shape, inherited, label_of, marked_built, on_top, rows_at}
-use Rattle.clap.specs.Simple.{with_built_subs, with_filled_rules, with_help_flag, with_inherited, with_leaf_noted, with_version_flag}
-use Rattle.clap.specs.declared.parser.matches.{ArgMatches.{ArgMatches, TheViews.{out-ArgMatches, out-SubCommand}}, SubCommand.SubCommand}
+use Rattle.clap.specs.{Words.{subcommand_rows_of, with_subcommand}, Walk.answers_to, declared.parser.matches.ArgMatches.ArgMatches}
+use Rattle.clap.specs.Simple.{built_above, built_leaf, entered, help_shape, inherited, label_of, marked_built, on_top, rows_at, with_built_subs}
+use Rattle.clap.specs.Simple.{with_filled_rules, with_help_flag, with_inherited, with_leaf_noted, with_version_flag}
+use Rattle.clap.specs.declared.parser.matches.{ArgMatches.TheViews.{out-ArgMatches, out-SubCommand}, SubCommand.SubCommand}
 
 -- x is one of the list
 abbrev pub IsOneOf : {X : Type 0} → X → List X → Type 0

@@ -1,9 +1,8 @@
 -- Texts of which the first bytes were written.
-use Rattle.std.proofs.Common.{◌≡◌, ℕ, zero, suc, ◌+◌, ◌<◌, add-one, get_or, List, [], ◌∷◌, ◌++◌, length, take, drop, Option, Some, None}
-use Rattle.std.proofs.Common.{Result, Ok, Err, OnOk, IfErr, sym, ◌∙◌, ap, subst, arith, append-nil, append_assoc, refl, inl, inr}
-use Rattle.std.proofs.lemmas.{Grind.flat_map-append, List.{take_all, take-append-le, take-append-drop}, Option.slice_get-get_or}
-use Rattle.std.{proofs.{lemmas.Bool.cases_lt, Math.Seq.take-append-add}, specs.{Prelude.slice_get, List.flat_map}}
-use Rattle.{std.specs.Io.KnownBytes.{Appends, Keeps}, command_line.specs.Writing.AppendsPrefix}
+use Rattle.std.proofs.Common.{◌≡◌, ℕ, zero, suc, ◌+◌, ◌<◌, add-one, get_or, List, [], ◌∷◌, ◌++◌, length, take, drop, Option, Some, None, Result, Ok}
+use Rattle.std.proofs.{Common.{Err, OnOk, IfErr, sym, ◌∙◌, ap, subst, arith, append-nil, append_assoc, refl, inl, inr}, lemmas.Grind.flat_map-append}
+use Rattle.std.proofs.{lemmas.{List.{take_all, take-append-le, take-append-drop}, Option.slice_get-get_or, Bool.cases_lt}, Math.Seq.take-append-add}
+use Rattle.{std.specs.{Prelude.slice_get, List.flat_map, Io.KnownBytes.{Appends, Keeps}}, command_line.specs.Writing.AppendsPrefix}
 use Rattle.verity_io.{proofs.KnownLemmas.appends_twice, specs.{Putting.bytes_taken, declared.putting.PutFault.PutFault}}
 
 -- nothing was written

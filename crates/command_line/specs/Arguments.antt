@@ -1,10 +1,10 @@
 -- The arguments and the programs of both command lines, in the words of clap (veritysetup(8); fsverity(1)).
 use Rattle.std.specs.Prelude.{◌≡◌, Bool, true, false, codes, fold, List, map, Option, Some, None}
-use Rattle.{std.specs.Str.bytes_eq, clap.specs.declared.builder.command.Command.{Command, TheViews.out-Command as fields_of}}
 use Rattle.clap.specs.{Words.{App, Rule, Shape, Text, app_of, new_app, new_rule, with_rule, with_subcommand}, Simple.on_top}
 use Rattle.clap.specs.declared.builder.ArgAction.TheVariants.{Set, Append, SetTrue}
-use Rattle.command_line.specs.declared.words.arguments.Argument.{Argument, TheVariants.{Option as OptionOf, Flag, Word, Words}}
 use Rattle.command_line.specs.declared.words.arguments.CommandTable.{CommandTable}
+use Rattle.{std.specs.Str.bytes_eq, clap.specs.declared.builder.command.Command.{Command, TheViews.out-Command as fields_of}}
+use Rattle.command_line.specs.declared.words.arguments.Argument.{Argument, TheVariants.{Option as OptionOf, Flag, Word, Words}}
 
 -- `--name VALUE`, at most once
 abbrev pub option_rule : Text → Rule

@@ -1,8 +1,7 @@
 -- What identifies a file in the answer of stat(2): a regular file is known by the device that it lies on and its number
 -- there, a block device by its own number, the same for each node that names it.
 use Rattle.std.specs.Prelude.{◌≡◌, ◌⊎◌, ℕ, List, Option, Some, None, IsSome, if◌then◌else◌}
-use Rattle.command_line.specs.declared.files.identity.FileIdentity.{FileIdentity, TheVariants.{Regular, BlockDevice}}
-use Rattle.command_line.specs.declared.files.identity.StatFields.{StatFields}
+use Rattle.command_line.specs.declared.files.identity.{FileIdentity.{FileIdentity, TheVariants.{Regular, BlockDevice}}, StatFields.StatFields}
 
 -- the identity of a file of which the system says this
 abbrev pub identity_of : StatFields → Option FileIdentity

@@ -1,7 +1,7 @@
 -- What the texts of options mean, with the defaults of both programs (veritysetup(8); fsverity(1)). How a number is
 -- written is this project's own, since both pages leave it open.
-use Rattle.std.specs.Prelude.{ℕ, ◌+◌, ◌-◌, ◌*◌, ◌/◌, ◌^◌, ◌&&◌, List, [], ◌∷◌, length, Option, Some, None, Result, Ok, Err, if◌then◌else◌}
-use Rattle.std.specs.Prelude.{nat_le, nat_lt}
+use Rattle.std.specs.Prelude.{ℕ, ◌+◌, ◌-◌, ◌*◌, ◌/◌, ◌^◌, ◌&&◌, List, [], ◌∷◌, length, Option, Some, None, Result, Ok, Err, if◌then◌else◌, nat_le}
+use Rattle.std.specs.Prelude.{nat_lt}
 use Rattle.{std.specs.{Result.result_ok, Str.all_ascii_digits}, hex.specs.Hex.decode_of}
 use Rattle.verity_hash.specs.{Hashing.algorithm_named, declared.algorithm.Algorithm.{Algorithm, TheVariants.Sha256}}
 

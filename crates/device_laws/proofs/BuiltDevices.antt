@@ -1,13 +1,11 @@
 -- A tree that the calls of the library for C have built, with the superblock, is a formatted device.
-use Rattle.std.proofs.Common.{◌≡◌, ◌≢◌, ◌∙◌, ℕ, ◌≤◌, List, Option, length, take, inl, inr, refl, subst, sym}
-use Rattle.{verity_c_api.specs.{ReadBack.HasFields, declared.parameters.VerityParams.VerityParams}, verity_io.specs.Counting.Change}
-use Rattle.{verity_plan.specs.Plans.PlanFields, verity_blocks.specs.{Levels.data_blocks, TreeWriting.tree_on_device}}
-use Rattle.veritysetup.proofs.{AcceptedLemmas.accepted-back, FormattedLemmas.written-formatted}
-use Rattle.veritysetup.specs.{Faults.{status_refused, status_verification_failed}, Options.Settings.SettingsFields}
-use Rattle.veritysetup.specs.Runs.{Format.formatted_device, Formatted.{IsFormattedDevice, root_above}, GivenBack.IsGivenBack}
-use Rattle.veritysetup.specs.{Runs.Verify.VerifyRun, declared.runs.verify_input.VerifyInput.VerifyInput}
-use Rattle.device_laws.proofs.SettingsOfParameters.{settings-valid, superblock-written}
-use Rattle.device_laws.specs.BuiltDevices.{AreSettingsOf, IsTreeByCalls, with_superblock_by}
+use Rattle.{std.proofs.Common.{◌≡◌, ◌≢◌, ◌∙◌, ℕ, ◌≤◌, List, Option, length, take, inl, inr, refl, subst, sym}, verity_io.specs.Counting.Change}
+use Rattle.{verity_c_api.specs.{ReadBack.HasFields, declared.parameters.VerityParams.VerityParams}, verity_plan.specs.Plans.PlanFields}
+use Rattle.veritysetup.{proofs.{AcceptedLemmas.accepted-back, FormattedLemmas.written-formatted}, specs.Options.Settings.SettingsFields}
+use Rattle.veritysetup.specs.{Faults.{status_refused, status_verification_failed}, Runs.{Format.formatted_device, GivenBack.IsGivenBack}}
+use Rattle.veritysetup.specs.{Runs.{Formatted.{IsFormattedDevice, root_above}, Verify.VerifyRun}, declared.runs.verify_input.VerifyInput.VerifyInput}
+use Rattle.{device_laws.proofs.SettingsOfParameters.{settings-valid, superblock-written}, verity_blocks.specs.Levels.data_blocks}
+use Rattle.{device_laws.specs.BuiltDevices.{AreSettingsOf, IsTreeByCalls, with_superblock_by}, verity_blocks.specs.TreeWriting.tree_on_device}
 
 -- the calls leave the device as building the tree at once does, and there is as much data as the plan wants
 tree-stands : (params : VerityParams) (p : PlanFields) (bytes before tree : List ℕ)

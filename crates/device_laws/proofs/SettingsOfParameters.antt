@@ -1,11 +1,10 @@
 -- Settings that say what parameters of the library for C say are those of a plan that can be carried out, their parts
 -- agree, and their superblock is the one that the library writes.
 use Rattle.std.proofs.Common.{◌≡◌, ℕ, ◌*◌, ◌%◌, ◌==◌, ◌∙◌, Bool, true, false, [], Some, None, Ok, if◌then◌else◌, arith, ap, refl, sym}
-use Rattle.{std.proofs.lemmas.Bool.Decides.nat_tests, verity_c_api.specs.declared.parameters.VerityParams.VerityParams}
-use Rattle.verity_c_api.proofs.{ParameterLemmas.{made-rule, plan-made, planned-ok}, SuperblockLemmas.superblock_of-own}
-use Rattle.verity_c_api.specs.{Answers.{superblock_in, value_or}, Parameters.{plan_if, plan_of}, ReadBack.HasFields}
-use Rattle.{verity_format.specs.Superblocks.superblock_bytes, device_laws.specs.BuiltDevices.AreSettingsOf}
-use Rattle.verity_plan.specs.{Plans.{PlanFields, base_of, offset_unit, plan_at}, Settings.rule_of}
+use Rattle.{std.proofs.lemmas.Bool.Decides.nat_tests, verity_c_api.specs.ReadBack.HasFields, verity_format.specs.Superblocks.superblock_bytes}
+use Rattle.verity_c_api.{specs.declared.parameters.VerityParams.VerityParams, proofs.ParameterLemmas.{made-rule, plan-made, planned-ok}}
+use Rattle.verity_c_api.{proofs.SuperblockLemmas.superblock_of-own, specs.{Answers.{superblock_in, value_or}, Parameters.{plan_if, plan_of}}}
+use Rattle.{device_laws.specs.BuiltDevices.AreSettingsOf, verity_plan.specs.{Plans.{PlanFields, base_of, offset_unit, plan_at}, Settings.rule_of}}
 use Rattle.veritysetup.proofs.{ChosenPlanLemmas.{IsPlanFrom, plan_is}, SettingsLemmas.{AreValid, superblock-valid}}
 use Rattle.veritysetup.specs.{Options.Settings.SettingsFields, Runs.HashDevice.superblock_for}
 

@@ -2,10 +2,9 @@
 -- on which its calls have built a tree, and the superblock that it writes (cryptsetup's on-disk format page, "dm-verity
 -- header").
 use Rattle.std.specs.Prelude.{◌≡◌, ◌⊎◌, ℕ, ◌==◌, List, [], map, Some, Ok, if◌then◌else◌}
-use Rattle.verity_c_api.specs.{Answers.{superblock_in, value_or}, BuildingLoop.{BuildsTree, FeedingCall, Kept, builder_call}}
-use Rattle.verity_c_api.specs.{Parameters.plan_of, PartsLoop.{AreWrites, BuildsTreeFromParts, JoinCalls, PartCalls}}
-use Rattle.{verity_c_api.specs.declared.parameters.VerityParams.VerityParams, verity_io.specs.Writing.put}
-use Rattle.verity_plan.specs.{CheckedSettings.type_of_number, Plans.{PlanFields, superblock_size}}
+use Rattle.verity_c_api.specs.{Answers.{superblock_in, value_or}, BuildingLoop.{BuildsTree, FeedingCall, Kept, builder_call}, Parameters.plan_of}
+use Rattle.verity_c_api.specs.{PartsLoop.{AreWrites, BuildsTreeFromParts, JoinCalls, PartCalls}, declared.parameters.VerityParams.VerityParams}
+use Rattle.{verity_io.specs.Writing.put, verity_plan.specs.{CheckedSettings.type_of_number, Plans.{PlanFields, superblock_size}}}
 use Rattle.{verity_builders.specs.Feeding.{FeedCall, written_all}, veritysetup.specs.Options.Settings.SettingsFields}
 
 -- the settings say what the parameters say

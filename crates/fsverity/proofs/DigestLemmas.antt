@@ -1,6 +1,6 @@
 -- What the answer of a pass over the data says of a file.
-use Rattle.std.proofs.{Common.{◌≡◌, ℕ, ◌+◌, ◌*◌, ◌/◌, ◌<◌, ◌≤◌, List, [], length, sym, arith}, Math.Nat.div-eq_of_lt-le}
-use Rattle.{std.specs.Prelude.min, verity_io.specs.Reading.HasRead, verity_blocks.specs.{Levels.data_blocks, TreeWriting.tree_on_device}}
+use Rattle.std.{proofs.{Common.{◌≡◌, ℕ, ◌+◌, ◌*◌, ◌/◌, ◌<◌, ◌≤◌, List, [], length, sym, arith}, Math.Nat.div-eq_of_lt-le}, specs.Prelude.min}
+use Rattle.{verity_io.specs.Reading.HasRead, verity_blocks.specs.{Levels.data_blocks, TreeWriting.tree_on_device}}
 use Rattle.{verity_pass.specs.Reading.{EndsWithin, FailsWithin}, fsverity.specs.Runs.FileDigest.with_tree}
 use Rattle.verity_plan.specs.{Plans.{PlanFields, plan_of_file}, Settings.TreeSettingsFields}
 

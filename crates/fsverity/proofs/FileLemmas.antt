@@ -2,13 +2,11 @@
 use Rattle.std.proofs.Common.{◌≡◌, ℕ, ◌^◌, ◌<◌, ◌⊎◌, Bool, true, false, List, length, arith, sym, subst, ◌∙◌, ap, refl, inl, inr}
 use Rattle.std.{proofs.lemmas.{Bool.cases_lt, List.take_all, Slice.Eq.bytes_eq-Decides}, specs.Str.bytes_eq}
 use Rattle.verity_hash.specs.{Hashing.hash_of, declared.{algorithm.Algorithm.Algorithm, salting.SaltRule.TheVariants.PaddedBefore}}
-use Rattle.{verity_hash.proofs.HashLemmas.length-hash_of, verity_plan.proofs.FanLemmas.{fan-two, some_data}}
-use Rattle.verity_plan.{specs.{Plans.{block_count, plan_of_file}, Settings.{IsValid, TreeSettingsFields}}, proofs.CountLemmas.le-div_ceil}
-use Rattle.verity_format.specs.Descriptors.{DescriptorFields, descriptor_bytes, digest_of_file}
-use Rattle.verity_format.proofs.DescriptorLemmas.{algorithm_by_length, one-descriptor}
+use Rattle.verity_plan.{proofs.FanLemmas.{fan-two, some_data}, specs.{Plans.{block_count, plan_of_file}, Settings.{IsValid, TreeSettingsFields}}}
+use Rattle.{verity_format.specs.Descriptors.{DescriptorFields, descriptor_bytes, digest_of_file}, verity_hash.proofs.HashLemmas.length-hash_of}
+use Rattle.{verity_format.proofs.DescriptorLemmas.{algorithm_by_length, one-descriptor}, verity_plan.proofs.CountLemmas.le-div_ceil}
 use Rattle.verity_pass.{specs.Collisions.TreesCollide, proofs.{BoundData.bytes-bound, PathSteps.bytes_eq-false}}
-use Rattle.verity_pass.proofs.RootLevels.{length-root_of_file, root_of_some}
-use Rattle.verity_blocks.specs.Levels.{cut, data_blocks, root, root_of_file}
+use Rattle.{verity_pass.proofs.RootLevels.{length-root_of_file, root_of_some}, verity_blocks.specs.Levels.{cut, data_blocks, root, root_of_file}}
 use Rattle.fsverity.specs.Runs.FileCollisions.{FilesCollide, blocks_of_file, descriptor_of_file}
 
 -- a file without bytes is empty

@@ -1,9 +1,8 @@
 -- What a form asks of a digest.
 use Rattle.{std.proofs.Common.{◌≡◌, ℕ, ◌<◌, List, length, true, arith}, verity_format.specs.Descriptors.algorithm_number}
-use Rattle.{verity_hash.specs.{Hashing.digest_len_of, declared.algorithm.Algorithm.Algorithm}, verity_plan.specs.Settings.is_of_fsverity}
-use Rattle.verity_hash.specs.declared.algorithm.Algorithm.TheVariants.{Sha256, Sha512, Sha1, Sha224, Sha384}
-use Rattle.fsverity.specs.{Texts.Lines.FitsForm, declared.texts.digest_lines.Form.Form}
-use Rattle.fsverity.specs.declared.texts.digest_lines.Form.TheVariants.{Full, Compact, Builtin, CompactBuiltin}
+use Rattle.verity_hash.specs.{Hashing.digest_len_of, declared.algorithm.Algorithm.{Algorithm, TheVariants.{Sha256, Sha512, Sha1, Sha224, Sha384}}}
+use Rattle.verity_plan.specs.Settings.{is_of_fsverity}
+use Rattle.fsverity.specs.{Texts.Lines.FitsForm, declared.texts.digest_lines.Form.{Form, TheVariants.{Full, Compact, Builtin, CompactBuiltin}}}
 
 -- an algorithm of fs-verity has a number
 has_number : (a : Algorithm) → is_of_fsverity a ≡ true → 0 < algorithm_number a

@@ -1,13 +1,13 @@
 -- A run over files, file after file.
-use Rattle.std.proofs.Common.{◌≡◌, ℕ, zero, suc, ◌+◌, ◌<◌, ◌≤◌, List, [], ◌∷◌, ◌++◌, length, take, Bool, true, false, inl, inr, Option}
-use Rattle.std.proofs.{Common.{Some, None, Result, Ok, Err, refl, ap, sym, subst, not, add-one, arith}, lemmas.Option.get_or_from_slice_get}
+use Rattle.std.proofs.Common.{◌≡◌, ℕ, zero, suc, ◌+◌, ◌<◌, ◌≤◌, List, [], ◌∷◌, ◌++◌, length, take, Bool, true, false, inl, inr, Option, Some, None}
+use Rattle.std.proofs.{Common.{Result, Ok, Err, refl, ap, sym, subst, not, add-one, arith}, lemmas.Option.get_or_from_slice_get}
 use Rattle.std.specs.{Prelude.{◌↔◌, ◌⊎◌, IfErr, IsOk, OnOk, slice_get}, List.prefix_len, Io.KnownBytes.Appends}
 use Rattle.command_line.{proofs.Prefixes.{Keeps-refl, appends_kept}, specs.declared.writing.print_fault.PrintFault.TheVariants.Output}
 use Rattle.{verity_io.proofs.KnownLemmas.appends_twice, verity_plan.specs.Settings.TreeSettingsFields}
 use Rattle.fsverity.specs.{Faults.{IsTold, result_status, status_failed, status_of}, Texts.Lines.digest_line, Openers.Opening.OpenerChange}
 use Rattle.fsverity.specs.Runs.Digest.{EndsAt, HasReason, IsLargeAt, IsPartOfDigestLine, first_without_digest, has_digest}
-use Rattle.fsverity.specs.Runs.Digested.{AreDigestLines, DigestInput, IsDigestAt, digest_line_at}
-use Rattle.fsverity.specs.{Runs.DigestSteps.{ComesBeforeLine, HasDigestAt, StopsRun, StopsStep, WritesStep}, declared.fault.Fault.Fault}
+use Rattle.fsverity.specs.{Runs.Digested.{AreDigestLines, DigestInput, IsDigestAt, digest_line_at}, declared.fault.Fault.Fault}
+use Rattle.fsverity.specs.Runs.DigestSteps.{ComesBeforeLine, HasDigestAt, StopsRun, StopsStep, WritesStep}
 use Rattle.fsverity.specs.declared.fault.Fault.TheVariants.{Unopened, Digest, Descriptor, DigestLine}
 use Rattle.fsverity.specs.declared.runs.digest_fault.DigestFault.TheVariants.{TooLarge, SourceShort, SourceFailed, DeviceFailed, Memory}
 use Rattle.command_line.specs.declared.writing.print_fault.PrintFault.TheVariants as print

@@ -1,8 +1,8 @@
 -- The output files of a run, each of which may be missing, and what a value says of them that a step answers.
 -- For the private functions; not needed to read a public contract.
 use Rattle.std.specs.Prelude.{◌≡◌, ◌⊎◌, ℕ, List, [], Option, Some, None, IsSome, is_some, option_map}
-use Rattle.{std.specs.Borrow.Bor, command_line.specs.declared.files.{identity.FileIdentity.FileIdentity, opening.MeasuredFile.MeasuredFile}}
-use Rattle.{command_line.specs.declared.files.opening.OpenedFile.OpenedFile, verity_plan.specs.Settings.TreeSettingsFields}
+use Rattle.{std.specs.Borrow.Bor, verity_plan.specs.Settings.TreeSettingsFields}
+use Rattle.command_line.specs.declared.files.{identity.FileIdentity.FileIdentity, opening.{MeasuredFile.MeasuredFile, OpenedFile.OpenedFile}}
 use Rattle.fsverity.specs.declared.{program.output_files.{OutputFiles.OutputFiles, OutputNames.OutputNames}, texts.digest_lines.Form.Form}
 use Rattle.fsverity.specs.declared.{program.outputs.OutputRequest.OutputRequest, runs.outputs.{OutputTask.OutputTask, Written.Written}}
 

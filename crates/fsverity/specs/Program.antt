@@ -4,9 +4,9 @@
 use Rattle.std.specs.Prelude.{◌≡◌, ◌≢◌, ◌||◌, Bool, true, ℕ, List, [], ◌∷◌, Option, Result, is_some, length, map, option_copied, option_map}
 use Rattle.std.specs.Prelude.{string_bytes}
 use Rattle.{std.specs.Io.KnownBytes.Appends, verity_plan.specs.Settings.TreeSettingsFields}
-use Rattle.fsverity.specs.{Options.Settings.digest_settings, Runs.Digested.AreDigestLines, Texts.Lines.form_of}
-use Rattle.fsverity.specs.declared.{program.done.Done.Done, runs.{digest.Printed.Printed, outputs.Written.Written}}
-use Rattle.fsverity.specs.declared.{options.option_fault.FsOptionFault.FsOptionFault, texts.digest_lines.Form.Form, words.line.Line.Line}
+use Rattle.fsverity.specs.{Options.Settings.digest_settings, Runs.Digested.AreDigestLines, Texts.Lines.form_of, declared.program.done.Done.Done}
+use Rattle.fsverity.specs.declared.{runs.{digest.Printed.Printed, outputs.Written.Written}, options.option_fault.FsOptionFault.FsOptionFault}
+use Rattle.fsverity.specs.declared.{texts.digest_lines.Form.Form, words.line.Line.Line}
 use Rattle.fsverity.specs.declared.program.done.Done.TheVariants as done
 
 -- whether the line names an output file

@@ -1,10 +1,8 @@
 -- What reading one block of an image gives.
-use Rattle.std.specs.Prelude.{◌≡◌, ◌⊎◌, ◌<◌, ⊤, ℕ, ◌+◌, ◌*◌, ◌/◌, ◌^◌, List, [], length, slice_index_or, Option, Some, None, Result, Ok}
-use Rattle.std.specs.Prelude.{Err}
+use Rattle.std.specs.Prelude.{◌≡◌, ◌⊎◌, ◌<◌, ⊤, ℕ, ◌+◌, ◌*◌, ◌/◌, ◌^◌, List, [], length, slice_index_or, Option, Some, None, Result, Ok, Err}
 use Rattle.{std.specs.Fork.slice_chunk, verity_io.specs.Counting.{Side, TheSource, TheDevice}, verity_hash.specs.Hashing.with_zeros}
 use Rattle.verity_plan.specs.{Plans.PlanFields, PlanCounts.level_count_of, Settings.fan}
-use Rattle.verity_blocks.specs.{Levels.data_blocks, TreeOnDevice.stored_block}
-use Rattle.verity_pass.specs.Paths.{ChecksBlock, HasCollision, IsAccepted}
+use Rattle.{verity_blocks.specs.{Levels.data_blocks, TreeOnDevice.stored_block}, verity_pass.specs.Paths.{ChecksBlock, HasCollision, IsAccepted}}
 use Rattle.read_one_block.specs.declared.image.ReadFault.{ReadFault, TheVariants.{DataFailed, TreeFailed, Refused}}
 
 -- what a device holds at the place of the hash block of level l above data block i, zeros where it ends

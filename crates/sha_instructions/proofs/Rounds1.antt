@@ -1,11 +1,11 @@
 -- The rounds, the schedule and the hash value of SHA-1, as vectors have them, by the definitions of `sha1`.
-use Rattle.std.proofs.Common.{◌≡◌, ℕ, zero, suc, ◌+◌, ◌-◌, ◌*◌, ◌/◌, ◌%◌, ◌^◌, ◌<◌, ◌≤◌, Bool, true, false, List, [], ◌∷◌, bit_or, bit_xor}
+use Rattle.std.proofs.Common.{◌≡◌, ℕ, zero, suc, ◌+◌, ◌-◌, ◌*◌, ◌/◌, ◌%◌, ◌^◌, ◌<◌, ◌≤◌, Bool, true, false, List, [], ◌∷◌, bit_or, bit_xor, length}
+use Rattle.std.{proofs.Common.{slice_index, take, drop, refl, ap, sym, ◌∙◌, arith}, specs.Int.{w32, rotate_left}}
 use Rattle.sha1.proofs.Schedule.{rounds_next, slice_index-schedule_first, slice_index-schedule_next, round_fn_choose, round_constant_choose}
 use Rattle.sha1.proofs.Schedule.{round_fn_parity, round_constant_parity, round_fn_majority, round_constant_majority, round_fn_last}
 use Rattle.sha1.proofs.Schedule.{round_constant_last}
-use Rattle.sha_instructions.specs.Sha1Vectors.{AreSums, AreWordsAndE, add_to_first, four_rounds, hash_from, in_vector, rotated}
-use Rattle.std.{proofs.Common.{length, slice_index, take, drop, refl, ap, sym, ◌∙◌, arith}, specs.Int.{w32, rotate_left}}
-use Rattle.sha_instructions.specs.{Sha1Vectors.{round_by, with_e, xor_two_on}, Vectors.{add, backwards, first_four, four, four_at, xor}}
+use Rattle.sha_instructions.specs.Sha1Vectors.{AreSums, AreWordsAndE, add_to_first, four_rounds, hash_from, in_vector, rotated, round_by, with_e}
+use Rattle.sha_instructions.specs.{Sha1Vectors.xor_two_on, Vectors.{add, backwards, first_four, four, four_at, xor}}
 use lib.Bits.{or_shifted, xor_assoc, xor_block, xor_comm, xor_lt, xor_mod, xor_shr}
 use Rattle.sha1.specs.Sha1 as S1
 

@@ -1,9 +1,8 @@
 -- The rounds, the schedule and the hash value, as vectors have them, by the definitions of `sha2`.
-use Rattle.std.proofs.Common.{◌≡◌, ℕ, Bool, true, false, zero, suc, ◌+◌, ◌-◌, ◌*◌, ◌<◌, ◌≤◌, List, [], ◌∷◌, length, slice_index, take, drop}
-use Rattle.sha2.proofs.Schedule256.{rounds_next, slice_index-schedule_first, slice_index-schedule_next}
-use Rattle.sha_instructions.specs.Sha256Vectors.{first_half, second_half, AreTwoSums, AreFourSums, abef, cdgh, efgh, from_abef, from_abcd}
-use Rattle.sha_instructions.specs.Sha256Vectors.{add_sigma0, add_sigma1, two_rounds, four_rounds}
-use Rattle.{std.proofs.Common.{refl, ap, sym, ◌∙◌, arith}, sha_instructions.specs.Vectors.{first_four, four, four_at, add, moved}}
+use Rattle.std.proofs.Common.{◌≡◌, ℕ, Bool, true, false, zero, suc, ◌+◌, ◌-◌, ◌*◌, ◌<◌, ◌≤◌, List, [], ◌∷◌, length, slice_index, take, drop, refl, ap}
+use Rattle.{std.proofs.Common.{sym, ◌∙◌, arith}, sha2.proofs.Schedule256.{rounds_next, slice_index-schedule_first, slice_index-schedule_next}}
+use Rattle.sha_instructions.specs.Sha256Vectors.{first_half, second_half, AreTwoSums, AreFourSums, abef, cdgh, efgh, from_abef, from_abcd, add_sigma0}
+use Rattle.sha_instructions.specs.{Sha256Vectors.{add_sigma1, two_rounds, four_rounds}, Vectors.{first_four, four, four_at, add, moved}}
 use Rattle.sha2.specs.Sha256 as S256
 
 -- equal heads and equal tails

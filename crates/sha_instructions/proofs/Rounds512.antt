@@ -1,7 +1,6 @@
 -- The rounds, the schedule and the hash value of SHA-512, as vectors have them, by the definitions of `sha2`.
-use Rattle.std.proofs.Common.{◌≡◌, ℕ, zero, suc, ◌+◌, ◌-◌, ◌*◌, ◌<◌, ◌≤◌, List, [], ◌∷◌, bit_and, bit_xor, length, slice_index, take, drop}
-use Rattle.std.proofs.Common.{refl, ap, sym, ◌∙◌, arith}
-use Rattle.sha2.proofs.Schedule512.{rounds_next, slice_index-schedule_first, slice_index-schedule_next}
+use Rattle.std.proofs.Common.{◌≡◌, ℕ, zero, suc, ◌+◌, ◌-◌, ◌*◌, ◌<◌, ◌≤◌, List, [], ◌∷◌, bit_and, bit_xor, length, slice_index, take, drop, refl, ap}
+use Rattle.{std.proofs.Common.{sym, ◌∙◌, arith}, sha2.proofs.Schedule512.{rounds_next, slice_index-schedule_first, slice_index-schedule_next}}
 use Rattle.sha_instructions.specs.Sha512Vectors.{add, add_sigma0, add_sigma1, between, first_sums, second_sums, two, two_at}
 use lib.Bits.{and_comm, xor_assoc, xor_comm}
 use Rattle.sha2.specs.Sha512 as S512

@@ -1,7 +1,7 @@
 -- SHA-256 in vectors of four words, by the definitions of `sha2`.
 use Rattle.std.specs.Prelude.{◌≡◌, ℕ, ◌+◌, Bool, true, false, List, [], ◌∷◌, slice_index}
-use Rattle.sha2.specs.Sha256 as S256
 use Rattle.sha_instructions.specs.{Vectors.{first_four, four}, declared.sha_256.{Variables.Variables, Working.Working}}
+use Rattle.sha2.specs.Sha256 as S256
 
 -- the working variables, or the words of a hash value, in two vectors: for x86
 abbrev pub abef : List ℕ → List ℕ

@@ -1,9 +1,8 @@
 -- The schedule, the rounds and the hash value of one lane, by the definitions of `sha2`.
-use Rattle.std.proofs.Common.{◌≡◌, ℕ, suc, ◌+◌, ◌-◌, ◌*◌, ◌/◌, ◌%◌, ◌^◌, ◌<◌, ◌≤◌, List, [], ◌∷◌, ◌++◌, length, slice_index, get_or, take}
-use Rattle.std.proofs.{Common.{drop, set, refl, ap, sym, ◌∙◌, arith}, Math.{Nat.mod-eq_of_lt, Seq.take-length}}
-use Rattle.std.proofs.{Math.ListN.{length-map, length-set}, lemmas.List.{get_or-take, get_or-drop, take_more_set, map-set}}
-use Rattle.std.specs.{Prelude.bit_or, Int.{w64, rotate_right, from_be_bytes, to_be_bytes}}
-use Rattle.sha_lanes.{specs.{Lanes.lane, Words64.AddsConstants}, proofs.LaneWise.{word_of_lane, word_kept, cons_eq}}
+use Rattle.std.proofs.Common.{◌≡◌, ℕ, suc, ◌+◌, ◌-◌, ◌*◌, ◌/◌, ◌%◌, ◌^◌, ◌<◌, ◌≤◌, List, [], ◌∷◌, ◌++◌, length, slice_index, get_or, take, drop, set}
+use Rattle.std.proofs.{Common.{refl, ap, sym, ◌∙◌, arith}, Math.{Nat.mod-eq_of_lt, Seq.take-length, ListN.{length-map, length-set}}}
+use Rattle.std.{specs.Int.{w64, rotate_right, from_be_bytes, to_be_bytes}, proofs.lemmas.List.{get_or-take, get_or-drop, take_more_set, map-set}}
+use Rattle.{sha_lanes.{specs.{Lanes.lane, Words64.AddsConstants}, proofs.LaneWise.{word_of_lane, word_kept, cons_eq}}, std.specs.Prelude.bit_or}
 use Rattle.sha2.specs.Sha512 as S512
 
 -- a rotation by less than a word

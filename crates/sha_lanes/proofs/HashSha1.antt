@@ -1,9 +1,9 @@
 -- SHA-1: the schedule, the rounds and the hash value of one lane, by the definitions of `sha1`.
-use Rattle.std.proofs.Common.{◌≡◌, ℕ, zero, suc, ◌+◌, ◌-◌, ◌*◌, ◌/◌, ◌%◌, ◌^◌, ◌<◌, ◌≤◌, List, [], ◌∷◌, ◌++◌, length, slice_index, get_or}
-use Rattle.std.proofs.{Common.{take, drop, set, refl, ap, sym, ◌∙◌, arith}, Math.{Nat.mod-eq_of_lt, Seq.take-length, ListN.length-map}}
+use Rattle.std.proofs.Common.{◌≡◌, ℕ, zero, suc, ◌+◌, ◌-◌, ◌*◌, ◌/◌, ◌%◌, ◌^◌, ◌<◌, ◌≤◌, List, [], ◌∷◌, ◌++◌, length, slice_index, get_or, take, drop}
+use Rattle.std.proofs.{Common.{set, refl, ap, sym, ◌∙◌, arith}, Math.{Nat.mod-eq_of_lt, Seq.take-length, ListN.length-map}}
 use Rattle.std.{proofs.lemmas.{List.{get_or-take, take_more_set, map-set}, Bool.Decides.nat_tests}, specs.Prelude.{bit_or, bit_xor}}
-use Rattle.{std.specs.Int.{w32, rotate_left, to_be_bytes}, sha_lanes.proofs.LaneWise.word_of_lane}
-use Rattle.sha_lanes.specs.{Lanes.lane, Sha1.first_round, declared.sha_1.functions.Kind.{Kind, TheVariants.{First, Second, Third, Fourth}}}
+use Rattle.{std.specs.Int.{w32, rotate_left, to_be_bytes}, sha_lanes.specs.declared.sha_1.functions.Kind.TheVariants.{First, Second, Third, Fourth}}
+use Rattle.sha_lanes.{proofs.LaneWise.word_of_lane, specs.{Lanes.lane, Sha1.first_round, declared.sha_1.functions.Kind.Kind}}
 use Rattle.sha1.specs.Sha1 as S1
 use Rattle.sha2.specs.Sha256 as S256
 

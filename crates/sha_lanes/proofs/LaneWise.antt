@@ -1,9 +1,9 @@
 -- Lane by lane: what an operator on vectors of n lanes does to lane j, and the words of a lane.
-use Rattle.std.proofs.Common.{◌≡◌, ℕ, zero, suc, ◌+◌, ◌-◌, ◌<◌, ◌≤◌, List, [], ◌∷◌, ◌++◌, length, slice_index, get_or, take, set, map, refl}
-use Rattle.std.{proofs.{Common.{ap, sym, ◌∙◌, arith}, lemmas.Simd.{get_or-zip2, length-zip2, get_or-replicate}}, specs.Prelude.replicate}
+use Rattle.std.proofs.Common.{◌≡◌, ℕ, zero, suc, ◌+◌, ◌-◌, ◌<◌, ◌≤◌, List, [], ◌∷◌, ◌++◌, length, slice_index, get_or, take, set, map, refl, ap, sym}
+use Rattle.std.{proofs.{Common.{◌∙◌, arith}, lemmas.Simd.{get_or-zip2, length-zip2, get_or-replicate}}, specs.Prelude.replicate}
 use Rattle.std.proofs.lemmas.List.{get_or-map, get_or-set_same, get_or-set_other, length-replicate, map-set, take_all, take_more}
-use Rattle.std.{proofs.{lemmas.List.take_more_set, Math.ListN.{length-map, length-set, get_or-map as get_or-map'}}, specs.Simd.Lanes.zip2}
 use Rattle.sha_lanes.specs.Lanes.{HasLanes, lane}
+use Rattle.std.{proofs.{lemmas.List.take_more_set, Math.ListN.{length-map, length-set, get_or-map as get_or-map'}}, specs.Simd.Lanes.zip2}
 
 -- a vector, by its own lanes
 pub own_lanes : {n : ℕ} {x : List ℕ} → length x ≡ n → HasLanes n x (λ j. slice_index x j)

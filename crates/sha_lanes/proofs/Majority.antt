@@ -1,7 +1,7 @@
 -- Maj as a sum of two parts without a bit in common: the bits that both b and c have, and those of a where
 -- b and c differ.
-use Rattle.std.{proofs.Common.{◌≡◌, ℕ, ◌+◌, ap, ◌∙◌, arith}, specs.Int.Bits.xor_disjoint}
-use Rattle.std.{proofs.lemmas.Nat.Bits.{bit_at-lt, bit_at-zero, bit_at_and, bit_at_xor, same_from_bits}, specs.Prelude.{bit_and, bit_xor}}
+use Rattle.std.{proofs.Common.{◌≡◌, ℕ, ◌+◌, ap, ◌∙◌, arith}, specs.{Int.Bits.xor_disjoint, Prelude.{bit_and, bit_xor}}}
+use Rattle.std.proofs.lemmas.Nat.Bits.{bit_at-lt, bit_at-zero, bit_at_and, bit_at_xor, same_from_bits}
 
 -- what a has where b and c differ
 differing : (a b c : ℕ) → bit_and a (bit_xor b c) ≡ bit_xor (bit_and a b) (bit_and a c)

@@ -1,7 +1,7 @@
 -- One message alone: groups of blocks, and their schedules.
-use Rattle.std.proofs.Common.{◌≡◌, ℕ, ◌+◌, ◌-◌, ◌*◌, ◌/◌, ◌≤◌, ◌<◌, List, ◌++◌, length, slice_index, take, drop, map, refl, ap, sym, ◌∙◌}
-use Rattle.std.proofs.{Common.arith, lemmas.{List.{take-replicate, drop-replicate, get_or-map}, Simd.get_or-replicate}}
-use Rattle.{std.specs.Prelude.replicate, sha_lanes.specs.{Lanes.HoldsFrom, Sha1.first_round, declared.sha_1.functions.Kind.Kind}}
+use Rattle.std.proofs.Common.{◌≡◌, ℕ, ◌+◌, ◌-◌, ◌*◌, ◌/◌, ◌≤◌, ◌<◌, List, ◌++◌, length, slice_index, take, drop, map, refl, ap, sym, ◌∙◌, arith}
+use Rattle.std.{proofs.lemmas.{List.{take-replicate, drop-replicate, get_or-map}, Simd.get_or-replicate}, specs.Prelude.replicate}
+use Rattle.sha_lanes.specs.{Lanes.HoldsFrom, Sha1.first_round, declared.sha_1.functions.Kind.Kind}
 use Rattle.sha_lanes.specs.{declared.sha_1.functions.Kind.TheVariants.{First, Second, Third, Fourth}, Words32.block_count as block_count32}
 use Rattle.sha_lanes.{specs.Words64.block_count as block_count64, proofs.{HashSha1.kind_constant, Pieces.length-pieces}}
 use Rattle.sha_lanes.proofs.{Groups.block_of_group, Padding32.{length-padded_message as length-padded_message32, blocks_of as blocks_of32}}

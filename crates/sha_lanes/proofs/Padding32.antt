@@ -1,7 +1,7 @@
 -- The padded message (5.1.1), row by row.
 use Rattle.std.proofs.Common.{◌≡◌, ℕ, ◌+◌, ◌-◌, ◌*◌, ◌/◌, ◌%◌, ◌^◌, ◌≤◌, List, [], ◌∷◌, ◌++◌, length, take, drop, ap, sym, ◌∙◌, arith, ◌⊎◌}
-use Rattle.std.{proofs.lemmas.List.{append_assoc, length-append, length-replicate, length-take-le}, specs.Prelude.replicate}
-use Rattle.{std.specs.Int.{w64, to_be_bytes}, sha_lanes.specs.{Lanes.{message_of, HoldsFrom}, Words32.{block_count, padded_row}}}
+use Rattle.std.{proofs.lemmas.List.{append_assoc, length-append, length-replicate, length-take-le}, specs.{Prelude.replicate, Int.{w64, to_be_bytes}}}
+use Rattle.sha_lanes.specs.{Lanes.{message_of, HoldsFrom}, Words32.{block_count, padded_row}}
 use Rattle.sha_lanes.proofs.Pieces.{row_whole, block_of_part, same_outside, length-part, length-pieces}
 use Rattle.sha2.specs.Sha256 as S256
 

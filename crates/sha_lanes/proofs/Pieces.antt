@@ -1,10 +1,9 @@
 -- Rows of the bytes of a message, and the parts of which it is made. Nothing here depends on the size of words.
-use Rattle.std.proofs.Common.{◌≡◌, ℕ, ◌+◌, ◌-◌, ◌*◌, ◌<◌, ◌≤◌, List, [], ◌++◌, length, slice_index, take, drop, refl, ap, sym, ◌∙◌, arith}
-use Rattle.std.{proofs.{Common.{◌⊎◌, inl, inr}, lemmas.{Bool.cases_lt, Simd.get_or-replicate}}, specs.{Prelude.replicate, List.between}}
-use Rattle.std.proofs.lemmas.Slice.{between-put_mid, between_is, between_to_end, take-put_mid_below}
-use Rattle.std.proofs.lemmas.List.{length-append, length-replicate, length-drop, get_or-append_right, get_or-drop, get_or-take}
-use Rattle.std.proofs.{lemmas.{List.{get_or_append_left, get_or_past, length-take-le}, Grind.same_number_lists}, Math.Nat.mul-le-mul_right}
-use Rattle.sha_lanes.specs.Lanes.{message_of, HoldsFrom}
+use Rattle.std.proofs.Common.{◌≡◌, ℕ, ◌+◌, ◌-◌, ◌*◌, ◌<◌, ◌≤◌, List, [], ◌++◌, length, slice_index, take, drop, refl, ap, sym, ◌∙◌, arith, ◌⊎◌, inl}
+use Rattle.std.{proofs.{Common.inr, lemmas.{Bool.cases_lt, Simd.get_or-replicate, Grind.same_number_lists}}, specs.{Prelude.replicate, List.between}}
+use Rattle.std.proofs.lemmas.{Slice.{between-put_mid, between_is, between_to_end, take-put_mid_below}, List.{get_or_past, length-take-le}}
+use Rattle.std.proofs.lemmas.List.{length-append, length-replicate, length-drop, get_or-append_right, get_or-drop, get_or-take, get_or_append_left}
+use Rattle.{std.proofs.Math.Nat.mul-le-mul_right, sha_lanes.specs.Lanes.{message_of, HoldsFrom}}
 use borrow.Rule.Slice.PartMut.{put_mid}
 
 -- ---- a row that is filled piece by piece

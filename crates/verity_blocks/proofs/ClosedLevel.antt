@@ -1,16 +1,15 @@
 -- A digest that comes to the open block of its level, and a hash block that has closed and still stands there.
-use Rattle.std.proofs.Common.{◌≡◌, ℕ, zero, suc, ◌+◌, ◌-◌, ◌*◌, ◌/◌, ◌%◌, ◌^◌, ◌<◌, ◌≤◌, ◌⊎◌, Bool, true, false, List, ◌++◌, take, length}
-use Rattle.std.proofs.Common.{replicate, arith, sym, ◌∙◌, ap, subst, inl, inr, refl, drop, length-drop}
-use Rattle.std.proofs.lemmas.{Nat.{div-add-mod', mod_below}, List.{append-nil, drop_all, length-replicate, length-take-le}}
-use Rattle.{std.proofs.Math.Nat.{div-eq_of_eq-mul_left, mul-mod_left, one-le-pow, pow-suc, pow-zero}, verity_blocks.specs.Levels.blocks_up}
-use Rattle.verity_plan.specs.{Plans.level_count, Settings.{TreeSettingsFields, hash, fan, slot_width}}
-use Rattle.verity_plan.proofs.{CountLemmas.IsLevelCount-level_count, FanLemmas.fan-some}
-use Rattle.verity_blocks.specs.Steps.OpenBlocks.{HasOpenBlocks, IsAsking, IsCarrying, IsReached, carry_state, digests_under, level_digest}
-use Rattle.verity_blocks.specs.{Steps.OpenBlocks.{open_block, Adds, HasClosed}, TreeOnDevice.tree_block}
+use Rattle.std.proofs.Common.{◌≡◌, ℕ, zero, suc, ◌+◌, ◌-◌, ◌*◌, ◌/◌, ◌%◌, ◌^◌, ◌<◌, ◌≤◌, ◌⊎◌, Bool, true, false, List, ◌++◌, take, length, replicate}
+use Rattle.std.proofs.{Common.{arith, sym, ◌∙◌, ap, subst, inl, inr, refl, drop, length-drop}, lemmas.Nat.{div-add-mod', mod_below}}
+use Rattle.{std.proofs.lemmas.List.{append-nil, drop_all, length-replicate, length-take-le}, verity_plan.proofs.FanLemmas.fan-some}
+use Rattle.std.proofs.Math.Nat.{div-eq_of_eq-mul_left, mul-mod_left, one-le-pow, pow-suc, pow-zero}
+use Rattle.verity_blocks.specs.{Levels.blocks_up, Steps.OpenBlocks.{Adds, HasClosed}, TreeOnDevice.tree_block}
+use Rattle.verity_blocks.specs.Steps.OpenBlocks.{HasOpenBlocks, IsAsking, IsCarrying, IsReached, carry_state, digests_under, level_digest, open_block}
 use Rattle.verity_blocks.proofs.OpenBlocks.{OpenBlock.open-cleared, Reached.{IsReached-full, next-slot, quotient-reached, quotient-stays}}
 use Rattle.verity_blocks.proofs.OpenBlocks.DigestsInTurn.{HasOpenBlocks-written, IsWritten, IsWritten-range, level_digest-below, range_at}
-use Rattle.verity_blocks.proofs.OpenBlocks.DigestsInTurn.{hash_block_of-none, level_digest-next, open_block_with-put, quotient-same}
-use Rattle.verity_blocks.proofs.OpenBlocks.DigestsInTurn.{slots-order, length-range, range-is_run, with_digest, with_range, open_block_with}
+use Rattle.verity_blocks.proofs.OpenBlocks.DigestsInTurn.{hash_block_of-none, level_digest-next, open_block_with-put, quotient-same, slots-order}
+use Rattle.verity_blocks.proofs.OpenBlocks.DigestsInTurn.{length-range, range-is_run, with_digest, with_range, open_block_with}
+use Rattle.verity_plan.{specs.{Plans.level_count, Settings.{TreeSettingsFields, hash, fan, slot_width}}, proofs.CountLemmas.IsLevelCount-level_count}
 use borrow.Rule.Slice.PartMut.{put_mid}
 
 -- a power above 1 has an exponent

@@ -1,6 +1,6 @@
 -- Lists that are joined.
-use Rattle.std.proofs.Common.{◌≡◌, ℕ, zero, suc, ◌+◌, ◌*◌, ◌<◌, ◌≤◌, List, length, arith, ◌∙◌, ap, ◌++◌, refl, length-append}
-use Rattle.std.{proofs.{lemmas.List.take_at, Math.Seq.drop-append-add}, specs.{Fork.slice_chunk, List.{flat_map, range_with_len}}}
+use Rattle.std.proofs.{Common.{◌≡◌, ℕ, zero, suc, ◌+◌, ◌*◌, ◌<◌, ◌≤◌, List, length, arith, ◌∙◌, ap, ◌++◌, refl, length-append}, lemmas.List.take_at}
+use Rattle.std.{proofs.Math.Seq.drop-append-add, specs.{Fork.slice_chunk, List.{flat_map, range_with_len}}}
 
 -- some pieces
 pub length-pieces : (f : ℕ → List ℕ) (size from n : ℕ) → ((m : ℕ) → from ≤ m → m < from + n → length (f m) ≡ size)

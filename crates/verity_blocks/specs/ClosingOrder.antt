@@ -1,8 +1,8 @@
 -- The closing order, in which hash blocks close, and so are written and compared, as the data blocks come one after
 -- another: a block closes when it is full, or with the last data block. That order is this project's own; the kernel's
 -- pages leave it open.
-use Rattle.std.specs.Prelude.{◌≡◌, ◌<◌, ℕ, zero, suc, ◌+◌, ◌-◌, ◌/◌, ◌%◌, ◌^◌, Bool, ◌||◌, ◌&&◌, ◌==◌, List, [], ◌∷◌, ◌++◌, map, filter}
-use Rattle.std.specs.Prelude.{min, nat_lt, ◌*◌, if◌then◌else◌}
+use Rattle.std.specs.Prelude.{◌≡◌, ◌<◌, ℕ, zero, suc, ◌+◌, ◌-◌, ◌/◌, ◌%◌, ◌^◌, Bool, ◌||◌, ◌&&◌, ◌==◌, List, [], ◌∷◌, ◌++◌, map, filter, min, nat_lt}
+use Rattle.std.specs.Prelude.{◌*◌, if◌then◌else◌}
 use Rattle.std.specs.List.{range_with_len, count_by}
 use Rattle.verity_plan.specs.{Plans.{level_count, IsTreeBlock, PlanFields}, PlanCounts.level_count_of, Settings.{TreeSettingsFields, fan}}
 

@@ -1,8 +1,7 @@
 -- What stands on a device while a tree is written there, hash block after hash block in closing order.
 use Rattle.std.specs.Prelude.{ℕ, List, [], ◌∷◌, length}
 use Rattle.verity_plan.specs.{Plans.{start_byte, PlanFields, start_byte_of}, Settings.{TreeSettingsFields, fan}}
-use Rattle.verity_io.specs.Writing.{put, Spoiled}
-use Rattle.verity_blocks.specs.{ClosingOrder.{BlockIndex, ComesNext, closed_after}, TreeOnDevice.tree_block}
+use Rattle.{verity_io.specs.Writing.{put, Spoiled}, verity_blocks.specs.{ClosingOrder.{BlockIndex, ComesNext, closed_after}, TreeOnDevice.tree_block}}
 
 -- a device with these blocks of the tree put at their places, one after another
 unfoldable pub device_with : TreeSettingsFields → List (List ℕ) → ℕ → List BlockIndex → List ℕ → List ℕ

@@ -1,9 +1,9 @@
 -- The plan of a file's tree.
 use Rattle.{std.{proofs.Common.{◌≡◌, ℕ, ◌*◌, ◌<◌, ◌≤◌, ap, arith, refl}, specs.Prelude.{Err, Ok}}, verity_io.specs.Writing.most_bytes}
-use Rattle.verity_plan.specs.Plans.{IsPlan, PlanFields, block_count, level_count, plan_for_bytes, plan_of_file}
+use Rattle.verity_plan.{specs.Plans.{IsPlan, PlanFields, block_count, level_count, plan_for_bytes, plan_of_file}, proofs.FanLemmas.some_data}
 use Rattle.verity_plan.specs.{PlanCounts.{level_count_of, most_level_count}, Settings.{IsValid, TreeSettingsFields, least_from}}
 use Rattle.verity_plan.{specs.declared.plan_fault.PlanFault.TheVariants.{NoData, TooLarge}, proofs.CountLemmas.{div_ceil-pos, le-div_ceil}}
-use Rattle.verity_plan.proofs.{FanLemmas.some_data, PlanLemmas.{checked_plan-large, has_room-data, levels_most, no_blocks, planned_is}}
+use Rattle.verity_plan.proofs.PlanLemmas.{checked_plan-large, has_room-data, levels_most, no_blocks, planned_is}
 use Rattle.verity_builders.specs.FileTrees.{levels_of_file}
 
 -- a file's plan has the builder's settings, and its open blocks are among the builder's

@@ -1,28 +1,24 @@
 -- A tree that is built from parts, each in calls of its own, in any order and at the same time, and joined by their
 -- digests.
-use Rattle.std.proofs.Common.{◌≡◌, ℕ, zero, suc, ◌+◌, ◌*◌, ◌/◌, ◌<◌, ◌≤◌, List, [], ◌∷◌, ◌++◌, length, take, drop, Option, Some, None}
-use Rattle.std.proofs.{Common.{arith, refl, sym, subst, ◌∙◌, ap, inl, inr, append_assoc, length-append}, lemmas.Bool.cases_lt}
-use Rattle.std.proofs.lemmas.List.{append-nil, Concat.flat_map-append}
-use Rattle.std.proofs.lemmas.List.Elements.{All-append, All-cons, All-contains, All-contains_itself, All-head, All-nil, All-tail}
-use Rattle.std.proofs.lemmas.List.{Elements.{All-weaker, Contains-append_left, Contains-append_right, Contains-push}, Sums.sum_by-append}
+use Rattle.std.proofs.Common.{◌≡◌, ℕ, zero, suc, ◌+◌, ◌*◌, ◌/◌, ◌<◌, ◌≤◌, List, [], ◌∷◌, ◌++◌, length, take, drop, Option, Some, None, arith, refl}
+use Rattle.std.proofs.{Common.{sym, subst, ◌∙◌, ap, inl, inr, append_assoc, length-append}, lemmas.{Bool.cases_lt, List.append-nil}}
+use Rattle.std.proofs.lemmas.List.{Concat.flat_map-append, Elements.{Contains-append_left, Contains-append_right, Contains-push}, Sums.sum_by-append}
+use Rattle.std.proofs.lemmas.List.Elements.{All-append, All-cons, All-contains, All-contains_itself, All-head, All-nil, All-tail, All-weaker}
 use Rattle.std.{proofs.Math.{Nat.{div-mul-le_self, le_of_mul-le-mul_right}, Seq.drop-append-add}, specs.Fork.slice_chunk}
 use Rattle.std.specs.{List.{All, Contains, flat_map, range_with_len}, Prelude.{◌==◌, ◌&&◌, cond, slice_index_or}}
 use Rattle.verity_plan.specs.{Plans.{HasBlock, IsPlan, PlanFields}, PlanCounts.{level_count_of, count_under}, Settings.{digest_len, fan}}
-use Rattle.verity_plan.proofs.{CountLemmas.mul_le, FanLemmas.{digest_len_of-pos, fan-some}}
+use Rattle.{verity_plan.proofs.{CountLemmas.mul_le, FanLemmas.{digest_len_of-pos, fan-some}}, verity_builders.specs.Parts.{part_order, plan_of_part}}
 use Rattle.verity_blocks.specs.{ClosingOrder.{BlockIndex, closed_after, times}, Levels.{data_blocks, root}, Steps.Feeding.Stands}
 use Rattle.verity_blocks.{specs.{TreeWriting.device_with, declared.hash_block.HashBlock.HashBlock}, proofs.Order.HandedOut.first-closed}
 use Rattle.verity_blocks.proofs.{Order.{ClosesOnce.ClosesOnce-all, ClosingInTurn.device_with-append}, Levels.FirstBlocks.chunk-front}
-use Rattle.verity_blocks.proofs.{Levels.CutBlocks.length-cut, OpenBlocks.OpenBlock.length-hash}
-use Rattle.verity_blocks.proofs.JoinedLists.{flat_map-same, length-pieces, piece}
-use Rattle.verity_builders.specs.Feeding.{FeedCall, given, written, written_all}
-use Rattle.verity_builders.specs.Parts.{AreDigests, BuildsFromParts, BuildsJoinInCalls, BuildsPartInCalls, FeedsPartCalls, HasPart}
-use Rattle.verity_builders.specs.Parts.{IsFedPart, IsHandedOutOfJoin, IsHandedOutOfPart, IsJoined, JoinInCalls, JoinsCalls, PartInCalls}
-use Rattle.verity_builders.specs.Parts.{blocks_under, bytes_of_part, calls_from_parts, digest_of_part, handed_out_of_join}
-use Rattle.verity_builders.specs.Parts.{handed_out_of_part, join_order, part_order, plan_of_part}
+use Rattle.verity_blocks.proofs.{Levels.CutBlocks.length-cut, OpenBlocks.OpenBlock.length-hash, JoinedLists.{flat_map-same, length-pieces, piece}}
+use Rattle.verity_builders.specs.Parts.{AreDigests, BuildsFromParts, BuildsJoinInCalls, BuildsPartInCalls, FeedsPartCalls, HasPart, IsFedPart}
+use Rattle.verity_builders.specs.Parts.{IsHandedOutOfJoin, IsHandedOutOfPart, IsJoined, JoinInCalls, JoinsCalls, PartInCalls, blocks_under}
+use Rattle.verity_builders.specs.Parts.{bytes_of_part, calls_from_parts, digest_of_part, handed_out_of_join, handed_out_of_part, join_order}
 use Rattle.verity_builders.specs.{PartsBuiltAgain.{AreWrites, IsCallForPart}, declared.join_builder.JoinBuilder.JoinBuilder}
 use Rattle.verity_builders.{specs.declared.part_builder.PartBuilder.PartBuilder, proofs.Parts.WrittenInAnyOrder.any-order}
-use Rattle.verity_builders.proofs.Parts.{PartEnds.{join-all, join-none, part-all, part-none}, PartMemory.part-bytes-most}
-use Rattle.verity_builders.proofs.Parts.{PartsInOrder.{handed_out-has, parts-once, range-more}, PartInWhole.part-last-below}
+use Rattle.verity_builders.proofs.Parts.{PartEnds.{join-all, join-none, part-all, part-none}, PartMemory.part-bytes-most, PartInWhole.part-last-below}
+use Rattle.verity_builders.{proofs.Parts.PartsInOrder.{handed_out-has, parts-once, range-more}, specs.Feeding.{FeedCall, given, written, written_all}}
 
 -- ---- calls in any order
 

@@ -1,11 +1,11 @@
 -- What a builder of a tree hands out, joined over all calls, is what building writes.
 use Rattle.std.proofs.Common.{◌≡◌, ℕ, ◌≤◌, List, [], ◌∷◌, ◌++◌, length, Option, Some, None, arith, refl, sym, ◌∙◌, ap, append_assoc}
 use Rattle.{std.{proofs.lemmas.List.append-nil, specs.List.flat_map}, verity_builders.specs.declared.tree_builder.TreeBuilder.TreeBuilder}
+use Rattle.verity_builders.specs.Feeding.{BuildsInCalls, FeedCall, FeedsCalls, IsFed, IsHandedOut, given, written, written_all}
 use Rattle.verity_plan.specs.{Plans.{IsPlan, PlanFields}, PlanCounts.level_count_of, Settings.fan}
 use Rattle.verity_blocks.specs.{ClosingOrder.{BlockIndex, closed_after, handed_out}, Levels.data_blocks, TreeWriting.device_with}
-use Rattle.verity_blocks.{specs.declared.hash_block.HashBlock.HashBlock, proofs.Levels.CutBlocks.length-cut}
-use Rattle.verity_blocks.proofs.Order.{ClosingInTurn.device_with-append, HandedOut.{all-handed-out, none-handed-out, first-closed}}
-use Rattle.verity_builders.specs.Feeding.{BuildsInCalls, FeedCall, FeedsCalls, IsFed, IsHandedOut, given, written, written_all}
+use Rattle.verity_blocks.{specs.declared.hash_block.HashBlock.HashBlock, proofs.{Levels.CutBlocks.length-cut, Order.ClosingInTurn.device_with-append}}
+use Rattle.verity_blocks.proofs.Order.HandedOut.{all-handed-out, none-handed-out, first-closed}
 
 -- what one call hands out, written, is the next of the tree's blocks put at its place
 written-given : (p : PlanFields) (closed : Option HashBlock) (memory fed more all device : List ℕ)

@@ -1,16 +1,16 @@
 -- A tree that is built as pieces of its data come, and a file's whose length isn't known before: what was fed, what is
 -- handed out, and what comes of it. Whoever reads a contract need not know how memory holds what was fed: it holds no
 -- bytes at the beginning, those before and those of the piece after feeding, and the answer at the end is of all.
-use Rattle.std.specs.Prelude.{◌≡◌, ◌⊎◌, ◌<◌, ◌≤◌, ℕ, ◌+◌, ◌*◌, ◌/◌, ◌^◌, Bool, true, false, List, [], ◌∷◌, ◌++◌, length, take, drop, map}
-use Rattle.std.specs.Prelude.{nat_lt, Option, Some, None, Result, Ok, Err, if◌then◌else◌}
+use Rattle.std.specs.Prelude.{◌≡◌, ◌⊎◌, ◌<◌, ◌≤◌, ℕ, ◌+◌, ◌*◌, ◌/◌, ◌^◌, Bool, true, false, List, [], ◌∷◌, ◌++◌, length, take, drop, map, nat_lt}
+use Rattle.std.specs.Prelude.{Option, Some, None, Result, Ok, Err, if◌then◌else◌}
 use Rattle.verity_plan.specs.{Plans.{PlanFields, plan_for_bytes, start_byte_of}, PlanCounts.{level_count_of, most_level_count}}
 use Rattle.{verity_plan.specs.{Settings.{TreeSettingsFields, fan}, declared.plan_fault.PlanFault.PlanFault}, std.specs.List.flat_map}
-use Rattle.{verity_plan.specs.declared.plan_fault.PlanFault.TheVariants.{NoData, TooLarge as NoRoom}, verity_io.specs.Writing.put}
-use Rattle.verity_blocks.specs.ClosingOrder.{BlockIndex, block_index, blocks_before, closed_after, handed_out, most_closed}
-use Rattle.verity_blocks.specs.{Levels.data_blocks, Steps.Feeding.{HasFed, Stands}, Windows.window_length, TreeOnDevice.tree_block}
-use Rattle.verity_blocks.specs.{TreeWriting.tree_on_device, declared.hash_block.HashBlock.HashBlock}
+use Rattle.verity_blocks.specs.{ClosingOrder.{BlockIndex, block_index, blocks_before, closed_after, handed_out, most_closed}, Levels.data_blocks}
+use Rattle.verity_blocks.specs.{Steps.Feeding.{HasFed, Stands}, Windows.window_length, TreeOnDevice.tree_block, TreeWriting.tree_on_device}
+use Rattle.verity_blocks.specs.declared.hash_block.HashBlock.{HashBlock}
 use Rattle.verity_builders.specs.declared.feed_fault.FeedFault.{FeedFault, TheVariants.{TooLong, TooShort, TooLarge, Waiting, Level}}
 use Rattle.verity_builders.specs.declared.{file_builder.FileBuilder.FileBuilder, tree_builder.{Fed.Fed, TreeBuilder.TreeBuilder}}
+use Rattle.{verity_plan.specs.declared.plan_fault.PlanFault.TheVariants.{NoData, TooLarge as NoRoom}, verity_io.specs.Writing.put}
 
 -- the length of the memory in bytes: an open block for each of so many levels, and a window of data blocks
 abbrev pub feeding_length : TreeSettingsFields → ℕ → ℕ

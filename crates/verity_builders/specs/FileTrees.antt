@@ -3,11 +3,10 @@
 -- file that goes on after the bytes so far; those that are left at an end are the tree's of the file that ends there.
 use Rattle.std.specs.Prelude.{◌≡◌, ◌<◌, ◌≤◌, ℕ, ◌+◌, ◌*◌, ◌/◌, ◌^◌, List, [], ◌∷◌, ◌++◌, length, take, drop, nat_lt, Option, Some, None}
 use Rattle.std.specs.Prelude.{if◌then◌else◌}
-use Rattle.{std.specs.List.{flat_map, range_with_len}, verity_io.specs.Writing.put}
-use Rattle.verity_plan.specs.Plans.{IsPlan, PlanFields, plan_for_bytes, plan_of_file, start_byte_of}
-use Rattle.verity_plan.specs.{PlanCounts.{level_count_of, most_level_count}, Settings.{TreeSettingsFields, fan}}
-use Rattle.verity_blocks.specs.ClosingOrder.{BlockIndex, block_index, blocks_before, closed_after, first_closing, handed_out}
-use Rattle.verity_blocks.specs.{Levels.data_blocks, Steps.Feeding.Stands, TreeOnDevice.tree_block, TreeWriting.tree_on_device}
+use Rattle.{std.specs.List.{flat_map, range_with_len}, verity_io.specs.Writing.put, verity_plan.specs.Settings.{TreeSettingsFields, fan}}
+use Rattle.verity_plan.specs.{Plans.{IsPlan, PlanFields, plan_for_bytes, plan_of_file, start_byte_of}, PlanCounts.{level_count_of, most_level_count}}
+use Rattle.verity_blocks.specs.{ClosingOrder.{BlockIndex, block_index, blocks_before, closed_after, first_closing, handed_out}, Levels.data_blocks}
+use Rattle.verity_blocks.specs.{Steps.Feeding.Stands, TreeOnDevice.tree_block, TreeWriting.tree_on_device}
 use Rattle.verity_builders.specs.{Feeding.{after_open_blocks, is_too_large, open_blocks}, declared.feed_fault.FeedFault.FeedFault}
 use Rattle.verity_builders.specs.declared.{feed_fault.FeedFault.TheVariants.{TooLarge, Waiting, Level}, file_tree_builder.FileFed.FileFed}
 use Rattle.verity_builders.specs.declared.file_tree_builder.{FileHashBlock.FileHashBlock, FileTreeBuilder.FileTreeBuilder}

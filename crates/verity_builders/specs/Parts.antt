@@ -2,17 +2,16 @@
 -- that the level's hash blocks are made of, and the join is what stands above these digests. So a part has up to fan ^
 -- level data blocks, and the hash blocks of the levels below; the join has those of this level and above. Above the top
 -- level there is one part, the whole tree, whose digest is the root hash.
-use Rattle.std.specs.Prelude.{◌≡◌, ◌⊎◌, ◌<◌, ◌≤◌, ℕ, zero, suc, ◌+◌, ◌-◌, ◌*◌, ◌/◌, ◌^◌, ◌==◌, ◌&&◌, ◌||◌, Bool, List, [], ◌∷◌, ◌++◌}
-use Rattle.std.specs.Prelude.{length, take, drop, map, filter, min, nat_le, nat_lt, slice_index_or, Option, Some, None, if◌then◌else◌}
-use Rattle.{std.specs.{Fork.slice_chunk, List.{flat_map, range_with_len}}, verity_builders.specs.declared.tree_builder.Fed.Fed}
+use Rattle.std.specs.Prelude.{◌≡◌, ◌⊎◌, ◌<◌, ◌≤◌, ℕ, zero, suc, ◌+◌, ◌-◌, ◌*◌, ◌/◌, ◌^◌, ◌==◌, ◌&&◌, ◌||◌, Bool, List, [], ◌∷◌, ◌++◌, length, take}
+use Rattle.std.specs.Prelude.{drop, map, filter, min, nat_le, nat_lt, slice_index_or, Option, Some, None, if◌then◌else◌}
+use Rattle.{std.specs.{Fork.slice_chunk, List.{flat_map, range_with_len}}, verity_builders.specs.declared.part_builder.PartBuilder.PartBuilder}
+use Rattle.verity_builders.specs.{declared.{tree_builder.Fed.Fed, feed_fault.FeedFault.FeedFault}, Steps.Parts.JoinStands}
+use Rattle.verity_builders.specs.Feeding.{FeedCall, IsPlacedFrom, after_open_blocks, ending_fault, given, open_blocks, taking_fault, written_all}
+use Rattle.verity_builders.specs.declared.{feed_fault.FeedFault.TheVariants.{TooLong, TooShort, Waiting, Level}, join_builder.JoinBuilder.JoinBuilder}
 use Rattle.verity_plan.specs.{Plans.{PlanFields, start_byte_of}, PlanCounts.{level_count_of, count_under}, Settings.{digest_len, fan, hash}}
-use Rattle.verity_blocks.specs.ClosingOrder.{BlockIndex, block_index, blocks_before, closed_after, closing_with, first_closing, most_closed}
-use Rattle.verity_blocks.specs.{ClosingOrder.times, Steps.Feeding.Stands, Levels.{blocks_up, data_blocks, root}, TreeOnDevice.tree_block}
-use Rattle.verity_blocks.specs.{TreeWriting.tree_on_device, declared.hash_block.HashBlock.HashBlock}
-use Rattle.verity_builders.specs.Feeding.{FeedCall, IsPlacedFrom, after_open_blocks, ending_fault, given, open_blocks, taking_fault}
-use Rattle.verity_builders.specs.{Feeding.written_all, Steps.Parts.JoinStands, declared.feed_fault.FeedFault.FeedFault}
-use Rattle.verity_builders.specs.declared.feed_fault.FeedFault.TheVariants.{TooLong, TooShort, Waiting, Level}
-use Rattle.verity_builders.specs.declared.{join_builder.JoinBuilder.JoinBuilder, part_builder.PartBuilder.PartBuilder}
+use Rattle.verity_blocks.specs.ClosingOrder.{BlockIndex, block_index, blocks_before, closed_after, closing_with, first_closing, most_closed, times}
+use Rattle.verity_blocks.specs.{Steps.Feeding.Stands, Levels.{blocks_up, data_blocks, root}, TreeOnDevice.tree_block, TreeWriting.tree_on_device}
+use Rattle.verity_blocks.specs.declared.hash_block.HashBlock.{HashBlock}
 use Rattle.verity_builders.specs.declared.part_builder.PartFault.{PartFault, TheVariants.{Level as NoLevel, Part as NoPart}}
 
 -- the tree has this part of a level

@@ -1,7 +1,7 @@
 -- Parts that were begun, given up and built again: which hash blocks may have been written besides.
 use Rattle.std.specs.Prelude.{◌≡◌, ◌⊎◌, ℕ, List, [], ◌++◌}
-use Rattle.{std.specs.List.{Contains, flat_map}, verity_plan.specs.Plans.PlanFields, verity_builders.specs.Feeding.FeedCall}
-use Rattle.verity_builders.specs.Parts.{FeedsPartCalls, IsFedPart, JoinInCalls, PartInCalls, bytes_of_part, calls_from_parts}
+use Rattle.{std.specs.List.{Contains, flat_map}, verity_plan.specs.Plans.PlanFields}
+use Rattle.verity_builders.specs.{Feeding.FeedCall, Parts.{FeedsPartCalls, IsFedPart, JoinInCalls, PartInCalls, bytes_of_part, calls_from_parts}}
 
 -- a call for a part of the tree above these bytes, in a run that fed the part's bytes from its first one on, and was
 -- perhaps given up before its last one

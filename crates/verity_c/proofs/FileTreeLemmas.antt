@@ -1,14 +1,12 @@
 -- What a builder of a file's tree has answered is what the library for C says of it.
-use Rattle.std.proofs.Common.{◌≡◌, ◌<◌, ◌≤◌, ◌+◌, ◌*◌, ℕ, true, List, ◌++◌, Option, Some, None, Result, Ok, Err, arith, ap, refl, rules}
-use Rattle.std.{proofs.{Common.subst, lemmas.Bool.Decides.nat_tests}, specs.Prelude.◌==◌}
-use Rattle.verity_plan.specs.{PlanCounts.most_level_count, Settings.TreeSettingsFields}
-use Rattle.verity_builders.specs.FileTrees.{FeedsFile, IsFedFileTree, TakesOfFile, given_of_file, last_block_fault}
+use Rattle.std.proofs.Common.{◌≡◌, ◌<◌, ◌≤◌, ◌+◌, ◌*◌, ℕ, true, List, ◌++◌, Option, Some, None, Result, Ok, Err, arith, ap, refl, rules, subst}
+use Rattle.{verity_plan.specs.{PlanCounts.most_level_count, Settings.TreeSettingsFields}, std.proofs.lemmas.Bool.Decides.nat_tests}
+use Rattle.{verity_builders.specs.FileTrees.{FeedsFile, IsFedFileTree, TakesOfFile, given_of_file, last_block_fault}, std.specs.Prelude.◌==◌}
 use Rattle.verity_builders.specs.declared.{feed_fault.FeedFault.FeedFault, file_tree_builder.{FileFed.FileFed, FileHashBlock.FileHashBlock}}
 use Rattle.verity_builders.specs.declared.file_tree_builder.FileTreeBuilder.{FileTreeBuilder}
-use Rattle.verity_c_api.specs.FileTrees.{HandsOutOfFile, IsFedTreeTo, TakesFilePiece, fed_by_file, fed_of_file, file_block_of}
-use Rattle.verity_c_api.specs.{FileTrees.{tree_builder_of, with_last_block}, Parameters.fsverity_tree_of, Statuses.fault_of_feed}
-use Rattle.verity_c_api.specs.declared.{build.{VerityBuild.VerityBuild, VerityFed.VerityFed}, fault.Fault.Fault}
-use Rattle.verity_c_api.specs.declared.parameters.FsverityParams.{FsverityParams}
+use Rattle.verity_c_api.specs.FileTrees.{HandsOutOfFile, IsFedTreeTo, TakesFilePiece, fed_by_file, fed_of_file, file_block_of, tree_builder_of}
+use Rattle.verity_c_api.specs.{FileTrees.with_last_block, Parameters.fsverity_tree_of, Statuses.fault_of_feed, declared.build.VerityBuild.VerityBuild}
+use Rattle.verity_c_api.specs.declared.{build.VerityFed.VerityFed, fault.Fault.Fault, parameters.FsverityParams.FsverityParams}
 use Rattle.verity_c_api.proofs.{AnswerLemmas.{list-said, says-of_file, within-said}, ParameterLemmas.one_value}
 
 -- a builder is that of its settings and its two numbers

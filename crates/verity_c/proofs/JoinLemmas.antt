@@ -1,16 +1,15 @@
 -- What the builder of a join has answered is what the library for C says of it.
-use Rattle.std.proofs.Common.{◌≡◌, ◌≢◌, ◌∙◌, ◌<◌, ◌≤◌, ◌+◌, ◌-◌, ◌^◌, ℕ, false, true, List, Option, Some, None, Result, Ok, arith, ap, inl}
-use Rattle.std.proofs.{Common.{inr, refl, rules, subst, sym}, Math.Nat.{one-le-pow, zero-div, zero-mod}, lemmas.Bool.Decides.nat_tests}
-use Rattle.{std.{proofs.lemmas.Bool.cases_lt, specs.Prelude.{◌==◌, ◌||◌, ◌*◌, ◌/◌, ◌%◌, MatchOption}}, verity_builders.specs.Feeding.given}
-use Rattle.verity_plan.specs.{Plans.{IsPlan, PlanFields, start_byte_of}, PlanCounts.{level_count_of, count_under}}
-use Rattle.verity_plan.{specs.Settings.{digest_len, fan}, proofs.{CountLemmas.div_ceil-pos, FanLemmas.fan-some, PlanLemmas.blocks-some}}
+use Rattle.std.proofs.Common.{◌≡◌, ◌≢◌, ◌∙◌, ◌<◌, ◌≤◌, ◌+◌, ◌-◌, ◌^◌, ℕ, false, true, List, Option, Some, None, Result, Ok, arith, ap, inl, inr, refl}
+use Rattle.std.proofs.{Common.{rules, subst, sym}, Math.Nat.{one-le-pow, zero-div, zero-mod}, lemmas.Bool.{Decides.nat_tests, cases_lt}}
+use Rattle.{std.specs.Prelude.{◌==◌, ◌||◌, ◌*◌, ◌/◌, ◌%◌, MatchOption}, verity_builders.specs.declared.tree_builder.Fed.Fed}
+use Rattle.verity_builders.specs.{Feeding.given, declared.{join_builder.JoinBuilder.JoinBuilder, part_builder.PartFault.PartFault}}
 use Rattle.verity_builders.specs.Parts.{AreDigests, IsJoined, IsPlacedOfJoin, Joins, TakesOfJoin, HasLastOfJoin, digests_fault, part_fault}
-use Rattle.verity_builders.specs.declared.{join_builder.JoinBuilder.JoinBuilder, part_builder.PartFault.PartFault, tree_builder.Fed.Fed}
-use Rattle.{verity_blocks.specs.declared.hash_block.HashBlock.HashBlock, verity_c_api.specs.Building.{block_of, fed_by, fed_of}}
-use Rattle.verity_c_api.specs.Parts.{AreNextDigests, HandsOutOfJoin, IsJoinedTo, TakesDigests, join_builder_of, last_index_of_join}
-use Rattle.verity_c_api.specs.{Parts.{last_of_join, last_of_join_in, with_digests, with_parts}, Answers.value_or}
+use Rattle.verity_plan.specs.{Plans.{IsPlan, PlanFields, start_byte_of}, PlanCounts.{level_count_of, count_under}, Settings.{digest_len, fan}}
+use Rattle.verity_plan.proofs.{CountLemmas.div_ceil-pos, FanLemmas.fan-some, PlanLemmas.blocks-some}
+use Rattle.{verity_blocks.specs.declared.hash_block.HashBlock.HashBlock, verity_c_api.proofs.AnswerLemmas.{list-said, says-of, within-said}}
+use Rattle.verity_c_api.specs.{Building.{block_of, fed_by, fed_of}, Parts.{last_of_join_in, with_digests, with_parts}, Answers.value_or}
+use Rattle.verity_c_api.specs.Parts.{AreNextDigests, HandsOutOfJoin, IsJoinedTo, TakesDigests, join_builder_of, last_index_of_join, last_of_join}
 use Rattle.verity_c_api.specs.declared.{build.{VerityFed.VerityFed, VerityJoin.VerityJoin}, fault.Fault.Fault}
-use Rattle.verity_c_api.proofs.AnswerLemmas.{list-said, says-of, within-said}
 
 -- the numbers of a builder, of which with its plan it is made
 abbrev pub join_of : JoinBuilder → VerityJoin

@@ -1,10 +1,9 @@
 -- What the builder of a part has answered is what the library for C says of it.
-use Rattle.std.proofs.Common.{◌≡◌, ◌≢◌, ◌<◌, ◌≤◌, ◌+◌, ◌*◌, ℕ, List, ◌++◌, Result, Ok, ap, refl, rules}
-use Rattle.{verity_plan.specs.Plans.PlanFields, verity_builders.specs.declared.{part_builder.PartBuilder.PartBuilder, tree_builder.Fed.Fed}}
-use Rattle.verity_builders.specs.{Feeding.given, Parts.{FeedsPart, IsFedPart, IsPlacedOfPart, TakesOfPart}}
+use Rattle.{std.proofs.Common.{◌≡◌, ◌≢◌, ◌<◌, ◌≤◌, ◌+◌, ◌*◌, ℕ, List, ◌++◌, Result, Ok, ap, refl, rules}, verity_plan.specs.Plans.PlanFields}
+use Rattle.verity_builders.specs.{declared.{part_builder.PartBuilder.PartBuilder, tree_builder.Fed.Fed}, Feeding.given}
+use Rattle.{verity_builders.specs.Parts.{FeedsPart, IsFedPart, IsPlacedOfPart, TakesOfPart}, verity_c_api.specs.declared.build.VerityFed.VerityFed}
 use Rattle.verity_c_api.specs.{Building.{block_of, fed_of}, Parts.{HandsOutOfPart, IsFedPartTo, TakesPartPiece, part_builder_of}}
-use Rattle.verity_c_api.specs.declared.{build.{VerityFed.VerityFed, VerityPart.VerityPart}, fault.Fault.Fault}
-use Rattle.verity_c_api.proofs.AnswerLemmas.{list-said, says-of, within-said}
+use Rattle.verity_c_api.{proofs.AnswerLemmas.{list-said, says-of, within-said}, specs.declared.{build.VerityPart.VerityPart, fault.Fault.Fault}}
 
 -- the numbers of a builder, of which with its plan it is made
 abbrev pub part_of : PartBuilder → VerityPart

@@ -1,11 +1,11 @@
 -- What the numbers of an answer say: how much was taken, and which hash block is named, of a plan's or a file's tree.
-use Rattle.std.proofs.Common.{◌≡◌, ◌≢◌, ◌<◌, ◌≤◌, ◌+◌, ◌*◌, ◌∙◌, ℕ, Bool, true, false, List, [], ◌∷◌, Option, Some, None, if◌then◌else◌}
-use Rattle.std.proofs.{Common.{arith, ap, inl, inr, refl, subst, sym}, lemmas.Bool.Decides.nat_tests}
-use Rattle.{std.specs.Prelude.{◌==◌, ◌⊎◌, MatchOption}, verity_c_api.specs.Building.{block_of, fed_by, fed_of, given_by, without_block}}
+use Rattle.std.proofs.Common.{◌≡◌, ◌≢◌, ◌<◌, ◌≤◌, ◌+◌, ◌*◌, ◌∙◌, ℕ, Bool, true, false, List, [], ◌∷◌, Option, Some, None, if◌then◌else◌, arith, ap}
+use Rattle.std.{proofs.{Common.{inl, inr, refl, subst, sym}, lemmas.Bool.Decides.nat_tests}, specs.Prelude.{◌==◌, ◌⊎◌, MatchOption}}
+use Rattle.verity_c_api.specs.{Building.{block_of, fed_by, fed_of, given_by, without_block}, FileTrees.{fed_by_file, fed_of_file, file_block_of}}
+use Rattle.verity_c_api.specs.declared.build.VerityFed.{VerityFed}
 use Rattle.verity_plan.{specs.{Plans.PlanFields, Settings.TreeSettingsFields}, proofs.CountLemmas.mul_le}
 use Rattle.verity_blocks.specs.{ClosingOrder.{BlockIndex, block_index}, declared.hash_block.HashBlock.HashBlock}
 use Rattle.verity_builders.specs.declared.{file_tree_builder.{FileFed.FileFed, FileHashBlock.FileHashBlock}, tree_builder.Fed.Fed}
-use Rattle.verity_c_api.specs.{FileTrees.{fed_by_file, fed_of_file, file_block_of}, declared.build.VerityFed.VerityFed}
 
 -- the numbers say what was taken, and which hash block is named, of a kind that stands on a device or not
 pub record Says {B : Type 0} (size taken : ℕ) (named : Option B) (fed : VerityFed) (block : B) : Type 0 where

@@ -1,10 +1,9 @@
 -- What a builder has answered is what the library for C says of it.
-use Rattle.std.proofs.Common.{◌≡◌, ◌≢◌, ◌<◌, ◌≤◌, ◌+◌, ◌*◌, ℕ, Bool, true, false, List, [], ◌∷◌, ◌++◌, Some, None, Ok, if◌then◌else◌, arith}
-use Rattle.std.{proofs.{Common.{ap, refl, rules, subst, ◌∙◌}, lemmas.Bool.Decides.nat_tests}, specs.Prelude.◌==◌}
-use Rattle.verity_plan.specs.{Plans.PlanFields, PlanCounts.level_count_of, Settings.TreeSettingsFields}
-use Rattle.verity_blocks.specs.{ClosingOrder.block_index, declared.hash_block.HashBlock.HashBlock}
+use Rattle.std.proofs.Common.{◌≡◌, ◌≢◌, ◌<◌, ◌≤◌, ◌+◌, ◌*◌, ℕ, Bool, true, false, List, [], ◌∷◌, ◌++◌, Some, None, Ok, if◌then◌else◌, arith, ap, refl}
+use Rattle.{verity_plan.specs.{Plans.PlanFields, PlanCounts.level_count_of, Settings.TreeSettingsFields}, std.proofs.Common.{rules, subst, ◌∙◌}}
+use Rattle.{verity_blocks.specs.{ClosingOrder.block_index, declared.hash_block.HashBlock.HashBlock}, std.proofs.lemmas.Bool.Decides.nat_tests}
 use Rattle.verity_builders.specs.{Feeding.{Feeds, IsFed, IsFedFile, Takes, given}, declared.file_builder.FileBuilder.FileBuilder}
-use Rattle.verity_builders.specs.declared.tree_builder.{Fed.Fed, TreeBuilder.TreeBuilder}
+use Rattle.{verity_builders.specs.declared.tree_builder.{Fed.Fed, TreeBuilder.TreeBuilder}, std.specs.Prelude.◌==◌}
 use Rattle.verity_c_api.proofs.{AnswerLemmas.{list-said, says-of, within-said}, ParameterLemmas.{one_value, tree_of_sized}}
 use Rattle.verity_c_api.specs.Building.{HandsOut, IsFedFileTo, IsFedTo, TakesPiece, block_of, builder_of, fed_of, file_builder_of, given_by}
 use Rattle.verity_c_api.specs.{BuildingLoop.hash_block_by, Parameters.{fsverity_tree_of, plan_of}, declared.build.VerityBuild.VerityBuild}

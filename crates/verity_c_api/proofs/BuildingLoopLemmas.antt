@@ -1,17 +1,15 @@
 -- Calls of verity_build_feed build the tree, and so does the loop of verity.h.
-use Rattle.std.proofs.Common.{◌≡◌, ℕ, true, false, List, [], ◌∷◌, ◌++◌, length, map, take, drop, Result, Ok, arith, ap, refl, sym, subst}
-use Rattle.std.proofs.{Common.{◌∙◌, append_assoc, inl, inr}, lemmas.{Bool.Decides.nat_tests, Grind.flat_map-append}}
-use Rattle.std.{proofs.lemmas.List.{append-nil, take-append-drop, take_all, Folds.flat_map-map}, specs.List.flat_map}
-use Rattle.{std.specs.Prelude.{◌==◌, nat_lt}, verity_plan.specs.{Plans.PlanFields, PlanCounts.level_count_of, Settings.digest_len}}
+use Rattle.std.proofs.Common.{◌≡◌, ℕ, true, false, List, [], ◌∷◌, ◌++◌, length, map, take, drop, Result, Ok, arith, ap, refl, sym, subst, ◌∙◌}
+use Rattle.std.proofs.{Common.{append_assoc, inl, inr}, lemmas.{Bool.Decides.nat_tests, Grind.flat_map-append, List.Folds.flat_map-map}}
+use Rattle.std.{proofs.lemmas.List.{append-nil, take-append-drop, take_all}, specs.{List.flat_map, Prelude.{◌==◌, nat_lt}}}
+use Rattle.{verity_plan.specs.{Plans.PlanFields, PlanCounts.level_count_of, Settings.digest_len}, verity_pass.proofs.PutTree.put-holds}
 use Rattle.verity_builders.{proofs.TreeCalls.calls-build, specs.Feeding.{BuildsInCalls, FeedCall, Feeds, FeedsCalls, IsFed, IsHandedOut}}
-use Rattle.{verity_pass.proofs.PutTree.put-holds, verity_c_api.proofs.StatusLemmas.room-of}
-use Rattle.verity_blocks.specs.{ClosingOrder.{BlockIndex, handed_out}, Levels.{data_blocks, root}, TreeOnDevice.HoldsTree}
-use Rattle.verity_c_api.proofs.{BuildingLemmas.{IsFedTo-at, given-by, handed-by}, ParameterLemmas.{of_plan, plan-made}}
-use Rattle.verity_c_api.specs.Building.{HandsOut, IsFedTo, TakesPiece, builder_of, memory_length_of, with_all_fed, with_memory}
+use Rattle.verity_c_api.proofs.{StatusLemmas.room-of, BuildingLemmas.{IsFedTo-at, given-by, handed-by}, ParameterLemmas.{of_plan, plan-made}}
+use Rattle.verity_c_api.specs.{Building.{HandsOut, IsFedTo, TakesPiece, builder_of, memory_length_of, with_all_fed, with_memory}, Parameters.plan_of}
 use Rattle.verity_c_api.specs.BuildingLoop.{AreFedBy, BuildsTree, FedPiece, FeedingCall, FeedsPiece, FeedsPieces, IsBegun, IsFedBy, Kept}
-use Rattle.verity_c_api.specs.{BuildingLoop.{builder_call, bytes_of, calls_of, hash_block_by, taken_by}, Parameters.plan_of}
-use Rattle.verity_c_api.specs.{Statuses.{done, status_of}, declared.{build.VerityBuild.VerityBuild, fault.Fault.Fault}}
-use Rattle.verity_c_api.specs.declared.parameters.VerityParams.{VerityParams}
+use Rattle.verity_c_api.specs.{BuildingLoop.{builder_call, bytes_of, calls_of, hash_block_by, taken_by}, Statuses.{done, status_of}}
+use Rattle.verity_c_api.specs.declared.{build.VerityBuild.VerityBuild, fault.Fault.Fault, parameters.VerityParams.VerityParams}
+use Rattle.verity_blocks.specs.{ClosingOrder.{BlockIndex, handed_out}, Levels.{data_blocks, root}, TreeOnDevice.HoldsTree}
 
 -- a call is one of the builder
 feeds-call : (params : VerityParams) (p : PlanFields) (before : Kept) (call : FeedingCall) (fed : List ℕ)

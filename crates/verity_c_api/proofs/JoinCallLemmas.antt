@@ -1,19 +1,17 @@
 -- Calls of verity_join_feed join the parts of a tree. All this is said of a plan that was made.
-use Rattle.std.proofs.Common.{◌≡◌, ℕ, ◌+◌, ◌*◌, ◌<◌, ◌≤◌, Bool, true, false, List, [], ◌∷◌, ◌++◌, length, map, Result, Ok, Err}
-use Rattle.std.proofs.{Common.{if◌then◌else◌, arith, ap, refl, sym, ◌∙◌, append_assoc, length-append}, lemmas.Bool.Decides.nat_tests}
-use Rattle.std.proofs.{lemmas.List.{append-nil, length-take-le, Folds.flat_map-map}, Math.Nat.le_of_mul-le-mul_right}
-use Rattle.std.specs.{List.{flat_map, range_with_len}, Prelude.{◌==◌, ◌||◌, nat_lt, slice_index_or}}
-use Rattle.verity_plan.specs.{Plans.PlanFields, PlanCounts.{level_count_of, count_under}, Settings.digest_len}
-use Rattle.{verity_plan.proofs.FanLemmas.digest_len_of-pos, verity_blocks.specs.Levels.{data_blocks, root}}
-use Rattle.verity_blocks.{proofs.{OpenBlocks.OpenBlock.length-hash, JoinedLists.length-pieces}, specs.ClosingOrder.BlockIndex}
-use Rattle.{verity_builders.{proofs.PartCalls.run-digests, specs.Feeding.FeedCall}, verity_c_api.specs.BuildingLoop.hash_block_by}
-use Rattle.verity_builders.specs.Parts.{AreDigests, BuildsJoinInCalls, PartInCalls, IsHandedOutOfJoin, IsJoined, Joins, JoinsCalls}
-use Rattle.verity_builders.specs.Parts.{blocks_under, counts_none_closed, digest_of_part, handed_out_of_join, join_length}
-use Rattle.verity_c_api.proofs.{BuildingLemmas.{given-by, handed-by}, StatusLemmas.{fault-not_done, room-of}}
-use Rattle.verity_c_api.specs.Parts.{if_room, join_builder_of, with_join_memory, with_joined, with_joined_file}
+use Rattle.std.proofs.Common.{◌≡◌, ℕ, ◌+◌, ◌*◌, ◌<◌, ◌≤◌, Bool, true, false, List, [], ◌∷◌, ◌++◌, length, map, Result, Ok, Err, if◌then◌else◌, arith}
+use Rattle.std.proofs.{Common.{ap, refl, sym, ◌∙◌, append_assoc, length-append}, lemmas.{Bool.Decides.nat_tests, List.{append-nil, length-take-le}}}
+use Rattle.std.{proofs.{lemmas.List.Folds.flat_map-map, Math.Nat.le_of_mul-le-mul_right}, specs.List.{flat_map, range_with_len}}
+use Rattle.{std.specs.Prelude.{◌==◌, ◌||◌, nat_lt, slice_index_or}, verity_blocks.specs.ClosingOrder.BlockIndex}
+use Rattle.verity_plan.{specs.{Plans.PlanFields, PlanCounts.{level_count_of, count_under}, Settings.digest_len}, proofs.FanLemmas.digest_len_of-pos}
+use Rattle.verity_blocks.{specs.Levels.{data_blocks, root}, proofs.{OpenBlocks.OpenBlock.length-hash, JoinedLists.length-pieces}}
+use Rattle.verity_builders.specs.Parts.{AreDigests, BuildsJoinInCalls, PartInCalls, IsHandedOutOfJoin, IsJoined, Joins, JoinsCalls, blocks_under}
+use Rattle.verity_builders.{specs.Parts.{counts_none_closed, digest_of_part, handed_out_of_join, join_length}, proofs.PartCalls.run-digests}
+use Rattle.verity_c_api.{specs.BuildingLoop.hash_block_by, proofs.{BuildingLemmas.{given-by, handed-by}, StatusLemmas.{fault-not_done, room-of}}}
+use Rattle.verity_c_api.specs.{Parts.{if_room, join_builder_of, with_join_memory, with_joined, with_joined_file}, Statuses.{done, status_of}}
 use Rattle.verity_c_api.specs.PartsLoop.{AreJoinedBy, IsJoinedBy, JoinCall, JoinCalls, KeptJoin, AreCallsOfJoin, digests_taken_by}
 use Rattle.verity_c_api.specs.PartsLoop.{file_join_end_status, join_builder_call, join_end_status, join_in_calls, joining_calls}
-use Rattle.verity_c_api.specs.{Statuses.{done, status_of}, declared.{build.VerityJoin.VerityJoin, fault.Fault.Fault}}
+use Rattle.{verity_c_api.specs.declared.{build.VerityJoin.VerityJoin, fault.Fault.Fault}, verity_builders.specs.Feeding.FeedCall}
 use Rattle.verity_c_api.specs.declared.fault.Fault.TheVariants as fault
 
 -- with the memory of a join, the plan has the level, or one level fewer

@@ -3,10 +3,10 @@ use Rattle.std.proofs.Common.{◌≡◌, ℕ, Bool, true, false, List, length, R
 use Rattle.{std.specs.Prelude.◌==◌, verity_plan.specs.{Plans.{IsPlan, PlanFields}, Settings.digest_len}}
 use Rattle.verity_pass.{proofs.KeptBlocks.kept-true, specs.{Links.{checked_link, checked_top}, declared.link.LinkFault.LinkFault}}
 use Rattle.verity_pass.specs.KeptBlocks.{AreAccepted, AreTrueOrCollide, CheckedBlock, IsAcceptedAsTop, IsAcceptedUnder}
-use Rattle.{verity_blocks.specs.Levels.{data_blocks, root}, verity_c_api.specs.declared.parameters.VerityParams.VerityParams}
-use Rattle.verity_c_api.{proofs.{ParameterLemmas.{file_plan-made, plan-made}, StatusLemmas.fault-not_done}, specs.Answers.top_status_in}
-use Rattle.verity_c_api.specs.{KeptBlocks.{AreAcceptedByCalls, IsTopByCall, IsUnderByCall}, Parameters.{fsverity_plan_of, plan_of}}
-use Rattle.verity_c_api.specs.{Statuses.{done, link_status}, declared.{fault.Fault.Fault, parameters.FsverityParams.FsverityParams}}
+use Rattle.{verity_blocks.specs.Levels.{data_blocks, root}, verity_c_api.specs.declared.parameters.FsverityParams.FsverityParams}
+use Rattle.verity_c_api.{specs.declared.{parameters.VerityParams.VerityParams, fault.Fault.Fault}, proofs.ParameterLemmas.{file_plan-made, plan-made}}
+use Rattle.verity_c_api.{proofs.StatusLemmas.fault-not_done, specs.{Answers.top_status_in, Parameters.{fsverity_plan_of, plan_of}}}
+use Rattle.verity_c_api.specs.{KeptBlocks.{AreAcceptedByCalls, IsTopByCall, IsUnderByCall}, Statuses.{done, link_status}}
 use Rattle.verity_pass.specs.declared.link.LinkFault.TheVariants as of_link
 use Rattle.verity_c_api.specs.declared.fault.Fault.TheVariants as fault
 

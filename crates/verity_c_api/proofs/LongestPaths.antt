@@ -1,6 +1,6 @@
 -- The longest paths, and the most memory.
-use Rattle.std.proofs.{Common.{◌≡◌, ◌+◌, ◌*◌, true, [], Ok, arith, refl}, lemmas.{Bool.Decides.nat_tests, Nat.ones_cat}}
-use Rattle.{std.specs.{Int.{is_power_of_two, Count.{ones, ones_in}}, Prelude.count_ones}, verity_blocks.specs.Windows.window_blocks}
+use Rattle.std.{proofs.{Common.{◌≡◌, ◌+◌, ◌*◌, true, [], Ok, arith, refl}, lemmas.{Bool.Decides.nat_tests, Nat.ones_cat}}, specs.Int.is_power_of_two}
+use Rattle.{std.specs.{Int.Count.{ones, ones_in}, Prelude.count_ones}, verity_blocks.specs.Windows.window_blocks}
 use Rattle.verity_hash.specs.declared.{algorithm.Algorithm.TheVariants.Sha512, salting.SaltRule.TheVariants.{Before, PaddedBefore}}
 use Rattle.verity_plan.specs.{Plans.{PlanFields, level_count}, PlanCounts.level_count_of, Settings.{fan, least_from, log2, slot_count}}
 use Rattle.verity_c_api.specs.{Building.{file_memory_length_of, memory_length_of}, Parameters.{fsverity_plan_of, fsverity_tree_of, plan_of}}

@@ -1,21 +1,20 @@
 -- The loops of verity.h end: each of their calls takes a byte or a digest, or hands out a hash block of a higher level.
-use Rattle.std.proofs.Common.{◌≡◌, ℕ, ◌+◌, ◌-◌, ◌*◌, ◌/◌, ◌<◌, ◌≤◌, Bool, true, false, List, [], ◌∷◌, length, drop, Option, Some, None}
-use Rattle.std.proofs.{Common.{Result, Ok, Err, if◌then◌else◌, arith, ap, inl, inr, length-drop, refl, sym, ◌∙◌}, lemmas.Bool.cases_lt}
-use Rattle.std.{proofs.{lemmas.Bool.Decides.nat_tests, Math.Nat.{add-mul-div_right, zero-mul}}, specs.Prelude.{◌≢◌, ◌⊎◌, ◌==◌, nat_lt, not}}
+use Rattle.std.proofs.Common.{◌≡◌, ℕ, ◌+◌, ◌-◌, ◌*◌, ◌/◌, ◌<◌, ◌≤◌, Bool, true, false, List, [], ◌∷◌, length, drop, Option, Some, None, Result, Ok}
+use Rattle.std.proofs.{Common.{Err, if◌then◌else◌, arith, ap, inl, inr, length-drop, refl, sym, ◌∙◌}, lemmas.Bool.{cases_lt, Decides.nat_tests}}
+use Rattle.std.{proofs.Math.Nat.{add-mul-div_right, zero-mul}, specs.Prelude.{◌≢◌, ◌⊎◌, ◌==◌, nat_lt, not}}
 use Rattle.verity_plan.proofs.{CountLemmas.mul_le, FanLemmas.digest_len_of-pos, PlanLemmas.IsPlan-checked_plan}
 use Rattle.verity_plan.specs.{Plans.{PlanFields, plan_for_bytes, plan_of_file}, declared.plan_fault.PlanFault.PlanFault}
-use Rattle.verity_plan.specs.declared.plan_fault.PlanFault.TheVariants.{NoData, TooLarge as NoRoom}
 use Rattle.verity_plan.specs.{PlanCounts.{level_count_of, most_level_count}, Settings.{IsValid, TreeSettingsFields, digest_len}}
 use Rattle.verity_builders.{proofs.FilePlans.{file_levels, no-levels, plan_of_file-is}, specs.Feeding.is_too_large}
 use Rattle.verity_builders.specs.{FileTrees.{last_block_fault, levels_of_file}, declared.feed_fault.FeedFault.FeedFault}
 use Rattle.verity_builders.specs.declared.feed_fault.FeedFault.TheVariants.{Level, TooLarge, Waiting}
-use Rattle.verity_c_api.proofs.{ParameterLemmas.{file_settings-made, of_plan}, StatusLemmas.fault-not_done}
+use Rattle.verity_c_api.{proofs.{ParameterLemmas.{file_settings-made, of_plan}, StatusLemmas.fault-not_done}, specs.declared.fault.Fault.Fault}
 use Rattle.verity_c_api.specs.{Building.{TakesPiece, file_memory_length_of, unless, with_file_memory}, Parts.{TakesDigests, TakesPartPiece}}
-use Rattle.verity_c_api.specs.BuildingLoop.{FeedingCall, GoesOn, Kept, TreeGoesOn}
-use Rattle.verity_c_api.specs.{FileTrees.{TakesFilePiece, tree_builder_of, with_last_block}, Parameters.{fsverity_tree_of, plan_of}}
-use Rattle.verity_c_api.specs.PartsLoop.{JoinCall, JoinGoesOn, KeptJoin, KeptPart, PartCall, PartGoesOn}
-use Rattle.verity_c_api.specs.{Statuses.{done, fault_of_feed, status_of}, declared.{build.VerityBuild.VerityBuild, fault.Fault.Fault}}
+use Rattle.verity_c_api.specs.{BuildingLoop.{FeedingCall, GoesOn, Kept, TreeGoesOn}, FileTrees.{TakesFilePiece, tree_builder_of, with_last_block}}
+use Rattle.verity_c_api.specs.{Parameters.{fsverity_tree_of, plan_of}, PartsLoop.{JoinCall, JoinGoesOn, KeptJoin, KeptPart, PartCall, PartGoesOn}}
+use Rattle.verity_c_api.specs.{Statuses.{done, fault_of_feed, status_of}, declared.build.VerityBuild.VerityBuild}
 use Rattle.verity_c_api.specs.declared.parameters.{FsverityParams.FsverityParams, VerityParams.VerityParams}
+use Rattle.verity_plan.specs.declared.plan_fault.PlanFault.TheVariants.{NoData, TooLarge as NoRoom}
 use Rattle.verity_c_api.specs.declared.fault.Fault.TheVariants as fault
 
 -- what is left to take and to hand out becomes less

@@ -1,18 +1,17 @@
 -- What parameters that make settings and a plan say.
-use Rattle.std.proofs.Common.{◌≡◌, ℕ, ◌≤◌, Bool, true, false, take, length, Option, Some, None, Result, Ok, Err, IfOk, if◌then◌else◌}
-use Rattle.std.proofs.{Common.{nat_le, arith, ap, refl, sym, subst, ◌∙◌}, lemmas.Bool.Decides.nat_tests}
-use Rattle.{std.specs.Prelude.{◌==◌, not, nat_lt}, verity_plan.proofs.PlanLemmas.{IsPlan-checked_plan, IsPlan-plan_from, planned_is}}
-use Rattle.verity_hash.specs.{Hashing.digest_len_of, declared.{algorithm.Algorithm.Algorithm, salting.SaltRule.TheVariants.PaddedBefore}}
+use Rattle.std.proofs.Common.{◌≡◌, ℕ, ◌≤◌, Bool, true, false, take, length, Option, Some, None, Result, Ok, Err, IfOk, if◌then◌else◌, nat_le, arith}
+use Rattle.std.{proofs.{Common.{ap, refl, sym, subst, ◌∙◌}, lemmas.Bool.Decides.nat_tests}, specs.Prelude.{◌==◌, not, nat_lt}}
+use Rattle.verity_plan.{proofs.PlanLemmas.{IsPlan-checked_plan, IsPlan-plan_from, planned_is}, specs.declared.hash_type.HashType.HashType}
 use Rattle.verity_plan.specs.Plans.{IsPlan, PlanFields, base_of, checked_plan, multiple_of, offset_unit, plan_at, plan_from, plan_of_file}
 use Rattle.verity_plan.specs.Settings.{IsValid, TreeSettingsFields, is_block_size, is_of_fsverity, least_block, most_salt, rule_of}
 use Rattle.verity_plan.specs.CheckedSettings.{checked_settings, fsverity_settings, type_of_number, verity_settings}
-use Rattle.verity_plan.specs.declared.{hash_type.HashType.{HashType, TheVariants.{Current, Original}}, plan_fault.PlanFault.PlanFault}
-use Rattle.verity_plan.specs.declared.{plan_fault.PlanFault.TheVariants.{NoData, TooLarge}, setting_fault.SettingFault.SettingFault}
-use Rattle.verity_plan.specs.declared.setting_fault.SettingFault.TheVariants.{Algorithm as OtherAlgorithm, DataBlockSize, HashBlockSize}
-use Rattle.verity_plan.specs.declared.setting_fault.SettingFault.TheVariants.{SaltSize}
-use Rattle.verity_c_api.specs.Parameters.{algorithm_of, fsverity_plan_by, fsverity_plan_of, fsverity_tree_by, fsverity_tree_of}
-use Rattle.verity_c_api.specs.{Parameters.{if_salt_fits, plan_by, plan_if, plan_of, planned, tree_by, tree_of}, declared.fault.Fault.Fault}
+use Rattle.verity_plan.specs.declared.{plan_fault.PlanFault.{TheVariants.{NoData, TooLarge}, PlanFault}, setting_fault.SettingFault.SettingFault}
+use Rattle.verity_plan.specs.declared.{setting_fault.SettingFault.TheVariants.SaltSize, hash_type.HashType.TheVariants.{Current, Original}}
+use Rattle.verity_hash.specs.{Hashing.digest_len_of, declared.{algorithm.Algorithm.Algorithm, salting.SaltRule.TheVariants.PaddedBefore}}
+use Rattle.verity_c_api.specs.Parameters.{algorithm_of, fsverity_plan_by, fsverity_plan_of, fsverity_tree_by, fsverity_tree_of, if_salt_fits, plan_by}
+use Rattle.verity_c_api.specs.{Parameters.{plan_if, plan_of, planned, tree_by, tree_of}, declared.fault.Fault.Fault}
 use Rattle.verity_c_api.specs.declared.parameters.{FsverityParams.FsverityParams, VerityParams.VerityParams}
+use Rattle.verity_plan.specs.declared.setting_fault.SettingFault.TheVariants.{Algorithm as OtherAlgorithm, DataBlockSize, HashBlockSize}
 use Rattle.verity_c_api.specs.declared.fault.Fault.TheVariants as fault
 
 -- a result has one value

@@ -1,18 +1,16 @@
 -- Calls of verity_part_feed build a part of a tree. All this is said of a plan that was made.
-use Rattle.std.proofs.Common.{◌≡◌, ℕ, ◌-◌, ◌*◌, ◌≤◌, true, false, List, [], ◌∷◌, ◌++◌, length, map, Result, Ok, arith, ap, refl, sym, subst}
-use Rattle.{std.proofs.{Common.{◌∙◌, append_assoc}, lemmas.Bool.Decides.nat_tests}, verity_blocks.specs.ClosingOrder.BlockIndex}
-use Rattle.std.proofs.lemmas.List.{append-nil, length-drop, length-take, length-take-le, map-append}
+use Rattle.std.proofs.Common.{◌≡◌, ℕ, ◌-◌, ◌*◌, ◌≤◌, true, false, List, [], ◌∷◌, ◌++◌, length, map, Result, Ok, arith, ap, refl, sym, subst, ◌∙◌}
+use Rattle.std.proofs.{Common.append_assoc, lemmas.{Bool.Decides.nat_tests, List.{append-nil, length-drop, length-take, length-take-le, map-append}}}
 use Rattle.std.proofs.{lemmas.List.{Elements.{Contains-append_right, Contains-push}, Folds.flat_map-map}, Math.Nat.mul_assoc}
-use Rattle.std.specs.{List.{Contains, flat_map}, Prelude.{◌==◌, min, nat_le, nat_lt}}
-use Rattle.verity_plan.specs.{Plans.PlanFields, PlanCounts.{level_count_of, count_under}, Settings.digest_len}
-use Rattle.verity_builders.specs.{Feeding.{FeedCall, feeding_length}, PartsBuiltAgain.IsCallForPart as IsBuilderCall}
+use Rattle.{std.specs.{List.{Contains, flat_map}, Prelude.{◌==◌, min, nat_le, nat_lt}}, verity_blocks.specs.ClosingOrder.BlockIndex}
 use Rattle.verity_builders.specs.Parts.{BuildsPartInCalls, FeedsPart, FeedsPartCalls, HasPart, IsFedPart, IsHandedOutOfPart, bytes_of_part}
-use Rattle.verity_builders.specs.Parts.{digest_of_part, handed_out_of_part, blocks_in_part, plan_of_part}
+use Rattle.{verity_builders.specs.Parts.{digest_of_part, handed_out_of_part, blocks_in_part, plan_of_part}, verity_plan.specs.Plans.PlanFields}
 use Rattle.verity_c_api.{proofs.{BuildingLemmas.{given-by, handed-by}, StatusLemmas.room-of}, specs.BuildingLoop.hash_block_by}
-use Rattle.verity_c_api.specs.Parts.{if_room, part_builder_of, with_part_fed, with_part_memory}
-use Rattle.verity_c_api.specs.PartsLoop.{AreFedPartBy, IsCallForPart, IsFedPartBy, KeptPart, PartCall, PartCalls, AreCallsOfPart}
-use Rattle.verity_c_api.specs.PartsLoop.{bytes_taken_by, feeding_calls, part_builder_call, part_end_status, part_in_calls}
-use Rattle.verity_c_api.specs.{Statuses.{done, status_of}, declared.{build.VerityPart.VerityPart, fault.Fault.Fault}}
+use Rattle.verity_c_api.specs.{Parts.{if_room, part_builder_of, with_part_fed, with_part_memory}, Statuses.{done, status_of}}
+use Rattle.verity_c_api.specs.PartsLoop.{AreFedPartBy, IsCallForPart, IsFedPartBy, KeptPart, PartCall, PartCalls, AreCallsOfPart, bytes_taken_by}
+use Rattle.verity_c_api.specs.{PartsLoop.{feeding_calls, part_builder_call, part_end_status, part_in_calls}, declared.build.VerityPart.VerityPart}
+use Rattle.{verity_c_api.specs.declared.fault.Fault.Fault, verity_plan.specs.{PlanCounts.{level_count_of, count_under}, Settings.digest_len}}
+use Rattle.verity_builders.specs.{Feeding.{FeedCall, feeding_length}, PartsBuiltAgain.IsCallForPart as IsBuilderCall}
 
 part-room : (p : PlanFields) (level number room : ℕ) → HasPart p level number
     → status_of (with_part_memory (Ok p) level number room) ≡ done → with_part_memory (Ok p) level number room ≡ Ok p

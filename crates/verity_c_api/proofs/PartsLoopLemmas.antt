@@ -2,14 +2,13 @@
 -- in the end by parameters that make it.
 use Rattle.std.proofs.Common.{◌≡◌, ℕ, ◌<◌, ◌≤◌, List, [], length, Result, Ok, arith, refl, inl, inr, sym, subst}
 use Rattle.{verity_plan.specs.{Plans.{IsPlan, PlanFields}, PlanCounts.count_under}, verity_pass.proofs.PutTree.put-holds}
-use Rattle.verity_builders.{proofs.PartCalls.parts-build, specs.Feeding.FeedCall}
-use Rattle.verity_builders.specs.Parts.{BuildsFromParts, PartInCalls, bytes_of_part, digest_of_part}
+use Rattle.verity_builders.{specs.Parts.{BuildsFromParts, PartInCalls, bytes_of_part, digest_of_part}, proofs.PartCalls.parts-build}
 use Rattle.verity_blocks.{proofs.JoinedLists.flat_map-same, specs.{Levels.{data_blocks, root}, TreeOnDevice.HoldsTree}}
 use Rattle.verity_c_api.proofs.{JoinCallLemmas.{all_digests, join-built}, ParameterLemmas.{file_plan-made, plan-made}}
 use Rattle.verity_c_api.{proofs.PartCallLemmas.{IsPartBuilt, call-for_part, part-built}, specs.Parameters.{fsverity_plan_of, plan_of}}
 use Rattle.verity_c_api.specs.PartsLoop.{AreWrites, BuildsTreeFromParts, JoinCalls, PartCalls, AreCallsOfJoin, AreCallsOfPart, calls_of_all}
 use Rattle.verity_c_api.specs.{PartsLoop.{digests_of, join_in_calls, part_in_calls}, declared.fault.Fault.Fault}
-use Rattle.verity_c_api.specs.declared.parameters.{FsverityParams.FsverityParams, VerityParams.VerityParams}
+use Rattle.{verity_c_api.specs.declared.parameters.{FsverityParams.FsverityParams, VerityParams.VerityParams}, verity_builders.specs.Feeding.FeedCall}
 
 -- a tree that is built by calls for each part and for the join
 pub parts-built : (p : PlanFields) (level : ℕ) (bytes : List ℕ) (parts : ℕ → PartCalls) (join : JoinCalls) → IsPlan p

@@ -1,11 +1,10 @@
 -- The hash blocks above a data block are few, or small, and so is the memory that a tree is built in.
-use Rattle.std.proofs.{Common.{◌≡◌, ℕ, ◌+◌, ◌*◌, ◌/◌, ◌^◌, ◌<◌, ◌≤◌, true, arith, inl, inr}, lemmas.Bool.cases_lt}
+use Rattle.std.{proofs.{Common.{◌≡◌, ℕ, ◌+◌, ◌*◌, ◌/◌, ◌^◌, ◌<◌, ◌≤◌, true, arith, inl, inr}, lemmas.Bool.cases_lt}, specs.Int.is_power_of_two}
 use Rattle.std.proofs.Math.Nat.{div-mul-le_self, mul-le-mul, mul-le-mul_left, pow-le-pow_left, pow-le-pow_right}
-use Rattle.{std.specs.Int.is_power_of_two, verity_plan.proofs.CountLemmas.mul_le, verity_builders.specs.Feeding.feeding_length}
+use Rattle.verity_plan.proofs.{CountLemmas.mul_le, FitLemmas.power_of_two-exponent, PlanLemmas.{level_count-few, level_count-least}}
 use Rattle.verity_plan.proofs.FanLemmas.{block_power, digest_len_of-most, fan-greatest, fan-power, fan-two, hash_most, some_data}
-use Rattle.verity_plan.{proofs.{FitLemmas.power_of_two-exponent, PlanLemmas.{level_count-few, level_count-least}}, specs.Plans.level_count}
-use Rattle.{verity_plan.specs.Settings.{IsValid, TreeSettingsFields, digest_len, fan}, verity_c_api.specs.Building.file_memory_length_of}
-use Rattle.verity_blocks.specs.Windows.{window_blocks, window_length}
+use Rattle.{verity_builders.specs.Feeding.feeding_length, verity_c_api.specs.Building.file_memory_length_of, verity_plan.specs.Plans.level_count}
+use Rattle.{verity_blocks.specs.Windows.{window_blocks, window_length}, verity_plan.specs.Settings.{IsValid, TreeSettingsFields, digest_len, fan}}
 
 -- a hash block has fewer bytes than 128 times its slots
 fan-wide : (s : TreeSettingsFields) → s.hash_block < 128 * fan s

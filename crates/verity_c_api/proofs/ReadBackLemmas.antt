@@ -1,18 +1,15 @@
 -- What is read of a superblock that parameters write are these parameters.
-use Rattle.std.proofs.Common.{◌≡◌, ℕ, ◌-◌, ◌≤◌, true, List, length, take, replicate, Option, Some, None, Result, Ok, arith, ap, refl, sym}
-use Rattle.std.proofs.{Common.{subst, ◌∙◌, inl, inr}, lemmas.{Bool.{eqb-true, Decides.nat_tests}, List.{length-take-le, take_at}}}
-use Rattle.{std.specs.Prelude.◌==◌, verity_hash.specs.{Hashing.with_zeros, declared.algorithm.Algorithm.Algorithm}}
-use Rattle.verity_hash.specs.declared.algorithm.Algorithm.TheVariants.{Sha1, Sha224, Sha256, Sha384, Sha512}
+use Rattle.std.proofs.Common.{◌≡◌, ℕ, ◌-◌, ◌≤◌, true, List, length, take, replicate, Option, Some, None, Result, Ok, arith, ap, refl, sym, subst, ◌∙◌}
+use Rattle.std.{proofs.{Common.{inl, inr}, lemmas.{Bool.{eqb-true, Decides.nat_tests}, List.{length-take-le, take_at}}}, specs.Prelude.◌==◌}
+use Rattle.verity_hash.specs.{Hashing.with_zeros, declared.algorithm.Algorithm.{Algorithm, TheVariants.{Sha1, Sha224, Sha256, Sha384, Sha512}}}
 use Rattle.verity_format.proofs.{SuperblockLemmas.{one-superblock, says-fault_none}, NameLemmas.{chosen, numbered-is}}
 use Rattle.verity_format.{proofs.TextLemmas.{length-superblock_bytes, text_says}, specs.declared.super_fault.SuperFault.SuperFault}
 use Rattle.verity_format.specs.{Superblocks.{IsValidSuperblock, SuperblockFields, superblock_bytes}, CheckedSuperblocks.superblock_fault}
-use Rattle.verity_plan.specs.{Plans.{PlanFields, multiple_of, offset_unit}, Settings.{TreeSettingsFields, rule_of}}
-use Rattle.verity_plan.{specs.declared.hash_type.HashType.HashType, proofs.PlanLemmas.blocks-some}
-use Rattle.verity_c_api.proofs.ParameterLemmas.{AreMadeBy, MakesPlan, made-rule, plan-made, settings_are}
-use Rattle.verity_c_api.{proofs.SuperblockLemmas.superblock_of-own, specs.Answers.{ReadsParameters, superblock_in}}
+use Rattle.verity_plan.{specs.{Plans.{PlanFields, multiple_of, offset_unit}, Settings.{TreeSettingsFields, rule_of}}, proofs.PlanLemmas.blocks-some}
+use Rattle.{verity_plan.specs.declared.hash_type.HashType.HashType, verity_c_api.specs.declared.parameters.VerityParams.VerityParams}
+use Rattle.verity_c_api.proofs.{ParameterLemmas.{AreMadeBy, MakesPlan, made-rule, plan-made, settings_are}, SuperblockLemmas.superblock_of-own}
+use Rattle.verity_c_api.specs.{Answers.{ReadsParameters, superblock_in}, ReadBack.{HasFields, IsReadBack, read_back}, declared.fault.Fault.Fault}
 use Rattle.verity_c_api.specs.Parameters.{algorithm_of, number_of, parameters_of, plan_by, plan_if, plan_of, tree_of}
-use Rattle.verity_c_api.specs.{ReadBack.{HasFields, IsReadBack, read_back}, declared.fault.Fault.Fault}
-use Rattle.verity_c_api.specs.declared.parameters.VerityParams.{VerityParams}
 
 -- the number of the hash function of a number is that number
 number_of-algorithm_of : (number : ℕ) (algorithm : Algorithm) → algorithm_of number ≡ Some algorithm

@@ -1,13 +1,11 @@
 -- The parameters that are read of a superblock make its plan.
 use Rattle.std.proofs.Common.{◌≡◌, ℕ, ◌%◌, ◌≤◌, true, List, ◌++◌, length, take, drop, replicate, arith, ap, refl, sym, ◌∙◌}
 use Rattle.std.{proofs.lemmas.{Bool.Decides.nat_tests, List.{drop-replicate, take_at}}, specs.Prelude.{◌-◌, ◌==◌, Some, Result, Ok, nat_le}}
-use Rattle.verity_hash.specs.{Hashing.with_zeros, declared.{algorithm.Algorithm.Algorithm, salting.SaltRule.TheVariants.{Before, After}}}
-use Rattle.verity_hash.specs.declared.{algorithm.Algorithm.TheVariants.{Sha256, Sha512, Sha1, Sha224, Sha384}, salting.SaltRule.SaltRule}
-use Rattle.verity_format.{specs.Superblocks.{IsValidSuperblock, SuperblockFields}, proofs.NameLemmas.numbered-back}
-use Rattle.verity_format.proofs.ReadLemmas.{verity_settings-ok}
-use Rattle.verity_plan.specs.{Plans.{plan_at, superblock_size}, Settings.{IsValid, TreeSettingsFields, rule_of}}
-use Rattle.verity_plan.specs.{CheckedSettings.verity_settings, declared.setting_fault.SettingFault.SettingFault}
-use Rattle.verity_plan.specs.declared.hash_type.HashType.{HashType, TheVariants.{Original, Current}}
+use Rattle.verity_hash.specs.{Hashing.with_zeros, declared.{algorithm.Algorithm.Algorithm, salting.SaltRule.{TheVariants.{Before, After}, SaltRule}}}
+use Rattle.verity_hash.specs.declared.algorithm.Algorithm.TheVariants.{Sha256, Sha512, Sha1, Sha224, Sha384}
+use Rattle.verity_format.{specs.Superblocks.{IsValidSuperblock, SuperblockFields}, proofs.{NameLemmas.numbered-back, ReadLemmas.verity_settings-ok}}
+use Rattle.verity_plan.specs.{Plans.{plan_at, superblock_size}, Settings.{IsValid, TreeSettingsFields, rule_of}, CheckedSettings.verity_settings}
+use Rattle.verity_plan.specs.declared.{setting_fault.SettingFault.SettingFault, hash_type.HashType.{HashType, TheVariants.{Original, Current}}}
 use Rattle.verity_c_api.specs.Parameters.{algorithm_of, number_of, parameters_of, plan_of, planned, tree_of}
 
 -- a hash function's number is its own

@@ -1,9 +1,9 @@
 -- What statuses say of faults, and of memory that has its length.
 use Rattle.std.{proofs.Common.{◌≡◌, of_z, refl, to_z, w32, ℕ, Bool, true, false, Ok, Err, if◌then◌else◌, sym}, specs.Prelude.◌==◌}
-use Rattle.{verity_plan.specs.Plans.PlanFields, verity_c_api.specs.{Statuses.{done, fault_status, status_of}, declared.fault.Fault.Fault}}
+use Rattle.{verity_plan.specs.Plans.PlanFields, verity_c_api.specs.Parts.if_room}
+use Rattle.verity_c_api.specs.{Statuses.{done, fault_status, status_of}, declared.fault.Fault.{Fault, TheVariants.{TooLong, TooShort, Waiting, Part}}}
 use Rattle.verity_c_api.specs.declared.fault.Fault.TheVariants.{Differs, Index, Level, Length, Root, Algorithm, HashType, DataBlockSize}
-use Rattle.verity_c_api.specs.declared.fault.Fault.TheVariants.{HashBlockSize, SaltSize, HashOffset, NoData, TooLarge, Short, Signature}
-use Rattle.verity_c_api.specs.{declared.fault.Fault.TheVariants.{Version, TooLong, TooShort, Waiting, Part}, Parts.if_room}
+use Rattle.verity_c_api.specs.declared.fault.Fault.TheVariants.{HashBlockSize, SaltSize, HashOffset, NoData, TooLarge, Short, Signature, Version}
 
 -- the status of a fault isn't that of a call that is done
 pub fault-not_done : (fault : Fault) → done ≡ fault_status fault → ⊥

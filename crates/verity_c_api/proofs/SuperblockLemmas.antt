@@ -1,8 +1,7 @@
 -- Parameters that make a plan have a superblock, and those that are read of one write it again.
 use Rattle.std.proofs.{Common.{◌≡◌, ◌≢◌, ◌*◌, ◌∙◌, ℕ, true, List, Some, None, Ok, nat_le, arith, ap, refl}, lemmas.Bool.Decides.nat_tests}
-use Rattle.{std.specs.Prelude.nat_lt, verity_format.proofs.ReadLemmas.{hash_type_of-rule_of, superblock_of-none}}
-use Rattle.verity_format.specs.Superblocks.{IsValidSuperblock, SuperblockFields, superblock_bytes}
-use Rattle.verity_format.specs.CheckedSuperblocks.{hash_type_of, superblock_of}
+use Rattle.{std.specs.Prelude.nat_lt, verity_format.specs.Superblocks.{IsValidSuperblock, SuperblockFields, superblock_bytes}}
+use Rattle.verity_format.{proofs.ReadLemmas.{hash_type_of-rule_of, superblock_of-none}, specs.CheckedSuperblocks.{hash_type_of, superblock_of}}
 use Rattle.verity_plan.{specs.Plans.{IsPlan, PlanFields}, proofs.PlanLemmas.blocks-some}
 use Rattle.verity_c_api.{proofs.{ParameterLemmas.{made-rule, one_value, plan-made}, ReadLemmas.tree-read}, specs.Answers.superblock_in}
 use Rattle.verity_c_api.specs.{Parameters.{parameters_of, plan_of, tree_of}, declared.parameters.VerityParams.VerityParams}

@@ -1,19 +1,16 @@
 -- A block that is accepted by parameters and a root hash with a trusted file digest.
-use Rattle.std.proofs.Common.{◌≡◌, ◌⊎◌, ℕ, ◌*◌, ◌^◌, ◌<◌, ◌≤◌, Bool, true, false, List, [], get_or, length, take, Result, Ok, Err}
-use Rattle.std.proofs.{Common.{if◌then◌else◌, arith, ap, refl, sym, subst, ◌∙◌, inl, inr}, lemmas.Bool.{eqb-true, Decides.nat_tests}}
-use Rattle.std.{proofs.lemmas.List.{take_all, FromFn.get_or-map-range_with_len}, specs.Prelude.{◌==◌, not}}
+use Rattle.std.proofs.Common.{◌≡◌, ◌⊎◌, ℕ, ◌*◌, ◌^◌, ◌<◌, ◌≤◌, Bool, true, false, List, [], get_or, length, take, Result, Ok, Err, if◌then◌else◌}
+use Rattle.std.proofs.{Common.{arith, ap, refl, sym, subst, ◌∙◌, inl, inr}, lemmas.{Bool.{eqb-true, Decides.nat_tests}, List.take_all}}
 use Rattle.verity_hash.{proofs.HashLemmas.length-hash_of, specs.{Hashing.hash_of, declared.algorithm.Algorithm.Algorithm}}
-use Rattle.verity_format.proofs.DescriptorLemmas.{algorithm_by_length, one-descriptor}
-use Rattle.verity_format.specs.Descriptors.{DescriptorFields, IsValidDescriptor, descriptor_bytes, digest_of_file}
+use Rattle.{verity_format.proofs.DescriptorLemmas.{algorithm_by_length, one-descriptor}, verity_plan.specs.Settings.{TreeSettingsFields, digest_len}}
+use Rattle.{verity_format.specs.Descriptors.{DescriptorFields, IsValidDescriptor, descriptor_bytes, digest_of_file}, std.specs.Prelude.{◌==◌, not}}
 use Rattle.verity_plan.{proofs.{CountLemmas.le-div_ceil, FanLemmas.some_data}, specs.Plans.{IsPlan, PlanFields, block_count, plan_of_file}}
-use Rattle.verity_plan.specs.Settings.{TreeSettingsFields, digest_len}
 use Rattle.verity_pass.proofs.{AcceptedPaths.accepted-true, PathSteps.same_or_two, RootLevels.{length-root_of_file, root_of_some}}
 use Rattle.verity_pass.specs.{Collisions.Collide, Paths.{ChecksBlock, IsAccepted}, declared.path.PathFault.PathFault}
-use Rattle.verity_blocks.specs.Levels.{block_at, cut, data_blocks, root, root_of_file}
-use Rattle.verity_c_api.proofs.{ParameterLemmas.{file_plan-made, file_settings-made}, StatusLemmas.fault-not_done}
-use Rattle.verity_c_api.specs.{Answers.{AnswersBlock, descriptor_in, file_digest_in, with_root}, Building.digest_of_fed}
-use Rattle.verity_c_api.specs.{Parameters.{fsverity_plan_of, fsverity_tree_of}, Statuses.{done, path_status}}
-use Rattle.verity_c_api.specs.TrustedBlocks.{FileBlock, IsAcceptedFor, IsBlockOf, ShowsCollision, descriptor_of_bytes}
+use Rattle.{verity_blocks.specs.Levels.{block_at, cut, data_blocks, root, root_of_file}, std.proofs.lemmas.List.FromFn.get_or-map-range_with_len}
+use Rattle.verity_c_api.{proofs.{ParameterLemmas.{file_plan-made, file_settings-made}, StatusLemmas.fault-not_done}, specs.Building.digest_of_fed}
+use Rattle.verity_c_api.specs.{Answers.{AnswersBlock, descriptor_in, file_digest_in, with_root}, Parameters.{fsverity_plan_of, fsverity_tree_of}}
+use Rattle.verity_c_api.specs.{Statuses.{done, path_status}, TrustedBlocks.{FileBlock, IsAcceptedFor, IsBlockOf, ShowsCollision, descriptor_of_bytes}}
 use Rattle.verity_c_api.specs.declared.{fault.Fault.Fault, parameters.FsverityParams.FsverityParams}
 use Rattle.verity_pass.specs.declared.path.PathFault.TheVariants as of_path
 use Rattle.verity_c_api.specs.declared.fault.Fault.TheVariants as fault

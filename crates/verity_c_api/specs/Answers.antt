@@ -1,14 +1,11 @@
 -- What each call of the library for C answers: its status, and what it leaves in what it was handed to fill. A fault leaves
 -- that as it was.
-use Rattle.std.specs.Prelude.{◌≡◌, ℕ, ℤ, ◌+◌, ◌*◌, ◌/◌, ◌^◌, ◌==◌, List, [], length, nat_le, not, Option, Some, None, Result, Ok, Err}
-use Rattle.std.specs.Prelude.{if◌then◌else◌}
-use Rattle.verity_format.specs.Descriptors.{DescriptorFields, descriptor_bytes, digest_of_file}
-use Rattle.verity_format.specs.{Superblocks.{IsSuperblock, SuperblockFields, superblock_bytes}, CheckedSuperblocks.superblock_of}
-use Rattle.{verity_format.specs.declared.super_fault.SuperFault.SuperFault, verity_pass.specs.declared.path.PathFault.TheVariants.DiffersAt}
+use Rattle.std.specs.Prelude.{◌≡◌, ℕ, ℤ, ◌+◌, ◌*◌, ◌/◌, ◌^◌, ◌==◌, List, [], length, nat_le, not, Option, Some, None, Result, Ok, Err, if◌then◌else◌}
+use Rattle.verity_format.specs.{Descriptors.{DescriptorFields, descriptor_bytes, digest_of_file}, CheckedSuperblocks.superblock_of}
+use Rattle.verity_format.specs.{Superblocks.{IsSuperblock, SuperblockFields, superblock_bytes}, declared.super_fault.SuperFault.SuperFault}
+use Rattle.verity_pass.specs.{declared.path.PathFault.{TheVariants.DiffersAt, PathFault}, Links.{checked_link, checked_top}, Paths.ChecksBlock}
 use Rattle.verity_plan.specs.{Plans.{PlanFields, end_place_of, start_byte_of, superblock_size}, PlanCounts.{level_count_of, level_size_of}}
-use Rattle.verity_plan.specs.Settings.{TreeSettingsFields, digest_len, fan}
-use Rattle.verity_pass.specs.{Links.{checked_link, checked_top}, Paths.ChecksBlock, declared.path.PathFault.PathFault}
-use Rattle.verity_c_api.specs.Parameters.{default_params, parameters_of, plan_of}
+use Rattle.{verity_plan.specs.Settings.{TreeSettingsFields, digest_len, fan}, verity_c_api.specs.Parameters.{default_params, parameters_of, plan_of}}
 use Rattle.verity_c_api.specs.{Statuses.{done, fault_of_superblock, fault_status, link_status, path_status}, declared.fault.Fault.Fault}
 use Rattle.verity_c_api.specs.declared.{fault.Fault.TheVariants.{Index, Level, Length, Root}, parameters.VerityParams.VerityParams}
 

@@ -1,18 +1,17 @@
 -- What the calls of the library for C answer that build a tree as pieces of its data come. Whoever reads a contract
 -- need not know how memory holds what was fed: it holds no bytes at the beginning, those before and those of the piece
 -- after feeding, and the answer at the end is of all. A fault leaves everything as it was.
-use Rattle.std.specs.Prelude.{◌≡◌, ◌≢◌, ◌<◌, ◌≤◌, ◌⊎◌, ℕ, ◌+◌, ◌-◌, ◌*◌, ◌/◌, ◌^◌, ◌==◌, ◌||◌, List, [], ◌∷◌, ◌++◌, length, not, Option}
-use Rattle.std.specs.Prelude.{Some, None, Result, Ok, Err, if◌then◌else◌}
-use Rattle.{verity_format.specs.Descriptors.digest_of_file, verity_plan.specs.Settings.{TreeSettingsFields, digest_len, fan}}
-use Rattle.verity_plan.specs.{Plans.{PlanFields, start_byte_of}, PlanCounts.{level_count_of, most_level_count}}
+use Rattle.std.specs.Prelude.{◌≡◌, ◌≢◌, ◌<◌, ◌≤◌, ◌⊎◌, ℕ, ◌+◌, ◌-◌, ◌*◌, ◌/◌, ◌^◌, ◌==◌, ◌||◌, List, [], ◌∷◌, ◌++◌, length, not, Option, Some, None}
+use Rattle.std.specs.Prelude.{Result, Ok, Err, if◌then◌else◌}
+use Rattle.{verity_format.specs.Descriptors.digest_of_file, verity_plan.specs.PlanCounts.{level_count_of, most_level_count}}
+use Rattle.verity_plan.specs.{Settings.{TreeSettingsFields, digest_len, fan}, Plans.{PlanFields, start_byte_of}}
 use Rattle.verity_blocks.specs.{ClosingOrder.{BlockIndex, block_index, blocks_before, handed_out}, Levels.{data_blocks, root, root_of_file}}
-use Rattle.{verity_blocks.specs.declared.hash_block.HashBlock.HashBlock, verity_c_api.specs.declared.parameters.VerityParams.VerityParams}
+use Rattle.{verity_blocks.specs.declared.hash_block.HashBlock.HashBlock, verity_builders.specs.declared.tree_builder.TreeBuilder.TreeBuilder}
+use Rattle.verity_c_api.specs.{declared.parameters.VerityParams.VerityParams, Answers.number_in, Parameters.{fsverity_tree_of, plan_of}}
+use Rattle.verity_c_api.specs.{Statuses.fault_of_feed, declared.{build.{VerityBuild.VerityBuild, VerityFed.VerityFed}, fault.Fault.Fault}}
+use Rattle.verity_c_api.specs.declared.{fault.Fault.TheVariants.{Length, Root}, parameters.FsverityParams.FsverityParams}
 use Rattle.verity_builders.specs.Feeding.{IsFed, IsFedFile, IsHandedOut, IsPlaced, end_fault, feed_fault, feeding_length, file_fault}
 use Rattle.verity_builders.specs.declared.{feed_fault.FeedFault.FeedFault, file_builder.FileBuilder.FileBuilder, tree_builder.Fed.Fed}
-use Rattle.verity_builders.specs.declared.tree_builder.TreeBuilder.{TreeBuilder}
-use Rattle.verity_c_api.specs.{Answers.number_in, Parameters.{fsverity_tree_of, plan_of}, Statuses.fault_of_feed}
-use Rattle.verity_c_api.specs.declared.{build.{VerityBuild.VerityBuild, VerityFed.VerityFed}, fault.Fault.Fault}
-use Rattle.verity_c_api.specs.declared.{fault.Fault.TheVariants.{Length, Root}, parameters.FsverityParams.FsverityParams}
 
 -- the builder of a plan's tree that a struct says, and the builder of a file's tree with so many bytes fed
 abbrev pub builder_of : PlanFields → VerityBuild → TreeBuilder

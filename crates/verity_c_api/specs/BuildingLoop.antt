@@ -4,12 +4,11 @@
 use Rattle.std.specs.Prelude.{◌≡◌, ◌≢◌, ◌⊎◌, ◌<◌, ⊤, ℕ, ◌==◌, List, [], ◌∷◌, ◌++◌, length, map, take, drop, Option, Some, None, Ok, IfOk}
 use Rattle.std.specs.Prelude.{if◌then◌else◌}
 use Rattle.{std.specs.List.flat_map, verity_plan.specs.{Plans.PlanFields, Settings.digest_len}}
-use Rattle.verity_builders.specs.Feeding.{BuildsInCalls, FeedCall, written_all}
+use Rattle.{verity_builders.specs.Feeding.{BuildsInCalls, FeedCall, written_all}, verity_c_api.specs.declared.parameters.VerityParams.VerityParams}
 use Rattle.verity_blocks.specs.{Levels.{data_blocks, root}, TreeOnDevice.HoldsTree, declared.hash_block.HashBlock.HashBlock}
-use Rattle.verity_c_api.specs.Building.{HandsOut, IsFedTo, TakesPiece, block_of, root_in, with_all_fed, with_memory, with_file_memory}
-use Rattle.verity_c_api.specs.{Building.with_piece, FileTrees.{TakesFilePiece, with_tree_piece}, Parameters.{fsverity_tree_of, plan_of}}
-use Rattle.verity_c_api.specs.{Statuses.{done, status_of}, declared.build.{VerityBuild.VerityBuild, VerityFed.VerityFed}}
-use Rattle.verity_c_api.specs.declared.parameters.{FsverityParams.FsverityParams, VerityParams.VerityParams}
+use Rattle.verity_c_api.specs.Building.{HandsOut, IsFedTo, TakesPiece, block_of, root_in, with_all_fed, with_memory, with_file_memory, with_piece}
+use Rattle.verity_c_api.specs.{FileTrees.{TakesFilePiece, with_tree_piece}, Parameters.{fsverity_tree_of, plan_of}, Statuses.{done, status_of}}
+use Rattle.verity_c_api.specs.declared.{build.{VerityBuild.VerityBuild, VerityFed.VerityFed}, parameters.FsverityParams.FsverityParams}
 
 -- what is kept between two calls
 pub record Kept : Type 0 where

@@ -1,16 +1,13 @@
 -- What the calls of the library for C answer that build a file's tree and hand out its hash blocks, while nobody knows
 -- the file's length. A hash block that is handed out is the tree's of every file that goes on; those that are left at
 -- an end are the tree's of the file that ends there. A fault leaves everything as it was.
-use Rattle.std.specs.Prelude.{◌≡◌, ◌≢◌, ◌<◌, ◌≤◌, ◌⊎◌, ℕ, ◌+◌, ◌==◌, List, ◌++◌, length, not, Option, Some, None, Result, Ok, Err}
-use Rattle.std.specs.Prelude.{if◌then◌else◌}
-use Rattle.verity_plan.specs.{Plans.plan_of_file, Settings.{TreeSettingsFields, digest_len}}
-use Rattle.verity_blocks.specs.{ClosingOrder.handed_out, TreeOnDevice.tree_block}
-use Rattle.verity_builders.specs.FileTrees.{IsFedFileTree, IsFinal, IsPlacedInFile, file_blocks, last_block_fault, end_index, piece_fault}
-use Rattle.verity_builders.specs.{FileTrees.root_fault, declared.file_tree_builder.{FileFed.FileFed, FileHashBlock.FileHashBlock}}
-use Rattle.verity_builders.specs.declared.file_tree_builder.FileTreeBuilder.{FileTreeBuilder}
+use Rattle.std.specs.Prelude.{◌≡◌, ◌≢◌, ◌<◌, ◌≤◌, ◌⊎◌, ℕ, ◌+◌, ◌==◌, List, ◌++◌, length, not, Option, Some, None, Result, Ok, Err, if◌then◌else◌}
+use Rattle.{verity_plan.specs.{Plans.plan_of_file, Settings.{TreeSettingsFields, digest_len}}, verity_blocks.specs.ClosingOrder.handed_out}
+use Rattle.verity_builders.specs.FileTrees.{IsFedFileTree, IsFinal, IsPlacedInFile, file_blocks, last_block_fault, end_index, piece_fault, root_fault}
+use Rattle.verity_builders.specs.declared.file_tree_builder.{FileFed.FileFed, FileHashBlock.FileHashBlock, FileTreeBuilder.FileTreeBuilder}
 use Rattle.verity_c_api.specs.{Building.{file_memory_length_of, given_by, unless, without_block}, Parameters.fsverity_tree_of}
-use Rattle.verity_c_api.specs.declared.{build.{VerityBuild.VerityBuild, VerityFed.VerityFed}, fault.Fault.Fault}
-use Rattle.verity_c_api.specs.declared.{fault.Fault.TheVariants.{Length, Root}, parameters.FsverityParams.FsverityParams}
+use Rattle.verity_c_api.specs.declared.{build.{VerityBuild.VerityBuild, VerityFed.VerityFed}, fault.Fault.{Fault, TheVariants.{Length, Root}}}
+use Rattle.{verity_c_api.specs.declared.parameters.FsverityParams.FsverityParams, verity_blocks.specs.TreeOnDevice.tree_block}
 
 -- the builder of a file's tree that a struct says
 abbrev pub tree_builder_of : TreeSettingsFields → VerityBuild → FileTreeBuilder

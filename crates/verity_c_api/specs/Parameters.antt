@@ -3,13 +3,11 @@
 -- for fs-verity (`FS_VERITY_HASH_ALG_*`) and go on from there.
 use Rattle.std.specs.Prelude.{ℕ, ◌==◌, length, take, replicate, nat_le, Option, Some, None, Result, Ok, Err, if◌then◌else◌}
 use Rattle.verity_hash.specs.{Hashing.with_zeros, declared.{algorithm.Algorithm.Algorithm, salting.SaltRule.TheVariants.PaddedBefore}}
-use Rattle.verity_format.specs.Superblocks.{SuperblockFields}
-use Rattle.verity_plan.specs.Plans.{PlanFields, multiple_of, offset_unit, plan_at, plan_for_bytes}
-use Rattle.verity_plan.specs.Settings.{TreeSettingsFields, most_verity_salt, type_number, most_salt}
-use Rattle.verity_plan.specs.{CheckedSettings.{fsverity_settings, type_of_number, verity_settings}, declared.hash_type.HashType.HashType}
-use Rattle.verity_plan.specs.declared.{plan_fault.PlanFault.PlanFault, setting_fault.SettingFault.SettingFault}
-use Rattle.verity_c_api.specs.{Statuses.{fault_of_plan, fault_of_setting}, declared.fault.Fault.Fault}
-use Rattle.verity_c_api.specs.declared.parameters.{FsverityParams.FsverityParams, VerityParams.VerityParams}
+use Rattle.{verity_format.specs.Superblocks.SuperblockFields, verity_c_api.specs.declared.parameters.VerityParams.VerityParams}
+use Rattle.verity_plan.specs.{Plans.{PlanFields, multiple_of, offset_unit, plan_at, plan_for_bytes}, declared.hash_type.HashType.HashType}
+use Rattle.verity_plan.specs.{Settings.{TreeSettingsFields, most_verity_salt, type_number, most_salt}, declared.plan_fault.PlanFault.PlanFault}
+use Rattle.verity_plan.specs.{CheckedSettings.{fsverity_settings, type_of_number, verity_settings}, declared.setting_fault.SettingFault.SettingFault}
+use Rattle.verity_c_api.specs.{Statuses.{fault_of_plan, fault_of_setting}, declared.{fault.Fault.Fault, parameters.FsverityParams.FsverityParams}}
 use Rattle.verity_hash.specs.declared.algorithm.Algorithm.TheVariants as algorithm
 use Rattle.verity_plan.specs.declared.setting_fault.SettingFault.TheVariants as setting
 use Rattle.verity_c_api.specs.declared.fault.Fault.TheVariants as fault

@@ -1,17 +1,16 @@
 -- What the calls of the library for C answer that build a tree from parts, and join them by their digests: for a plan
 -- that parameters of either format make, or the first fault of the parameters. Whoever reads a contract need not know
 -- how memory holds what was fed or taken. A fault leaves everything as it was.
-use Rattle.std.specs.Prelude.{◌≡◌, ◌≢◌, ◌<◌, ◌≤◌, ◌⊎◌, ℕ, ◌+◌, ◌-◌, ◌*◌, ◌/◌, ◌%◌, ◌^◌, ◌==◌, ◌||◌, List, ◌++◌, min, nat_le, nat_lt, not}
-use Rattle.std.specs.Prelude.{Result, Ok, Err, if◌then◌else◌}
+use Rattle.std.specs.Prelude.{◌≡◌, ◌≢◌, ◌<◌, ◌≤◌, ◌⊎◌, ℕ, ◌+◌, ◌-◌, ◌*◌, ◌/◌, ◌%◌, ◌^◌, ◌==◌, ◌||◌, List, ◌++◌, min, nat_le, nat_lt, not, Result, Ok}
+use Rattle.std.specs.Prelude.{Err, if◌then◌else◌}
 use Rattle.{verity_format.specs.Descriptors.digest_of_file, verity_blocks.specs.{ClosingOrder.blocks_before, Levels.{data_blocks, root}}}
 use Rattle.verity_plan.specs.{Plans.{PlanFields, start_byte_of}, PlanCounts.{level_count_of, count_under}, Settings.{digest_len, fan}}
-use Rattle.{verity_builders.specs.Feeding.feeding_length, verity_c_api.specs.declared.fault.Fault.TheVariants.{Length, Level, Part, Root}}
-use Rattle.verity_builders.specs.Parts.{AreDigests, IsDigestOfPart, IsFedPart, IsHandedOutOfJoin, IsHandedOutOfPart, IsJoined}
-use Rattle.verity_builders.specs.Parts.{IsPlacedOfJoin, IsPlacedOfPart, digest_fault, digests_fault, first_block, handed_out_of_join}
-use Rattle.verity_builders.specs.Parts.{handed_out_of_part, join_fault, join_length, blocks_in_part, piece_fault, plan_of_part}
+use Rattle.verity_builders.specs.{Feeding.feeding_length, Parts.{join_length, blocks_in_part, piece_fault, plan_of_part}}
+use Rattle.verity_builders.specs.Parts.{AreDigests, IsDigestOfPart, IsFedPart, IsHandedOutOfJoin, IsHandedOutOfPart, IsJoined, IsPlacedOfJoin}
+use Rattle.verity_builders.specs.Parts.{IsPlacedOfPart, digest_fault, digests_fault, first_block, handed_out_of_join, handed_out_of_part, join_fault}
 use Rattle.verity_builders.specs.declared.{join_builder.JoinBuilder.JoinBuilder, part_builder.PartBuilder.PartBuilder}
-use Rattle.verity_c_api.specs.{Answers.number_in, Building.{block_of, given_by, unless, without_block}, declared.build.VerityFed.VerityFed}
-use Rattle.verity_c_api.specs.declared.{build.{VerityJoin.VerityJoin, VerityPart.VerityPart}, fault.Fault.Fault}
+use Rattle.verity_c_api.specs.{declared.{fault.Fault.{TheVariants.{Length, Level, Part, Root}, Fault}, build.VerityFed.VerityFed}, Answers.number_in}
+use Rattle.verity_c_api.specs.{Building.{block_of, given_by, unless, without_block}, declared.build.{VerityJoin.VerityJoin, VerityPart.VerityPart}}
 
 -- the builder of a part of a plan's tree that a struct says, and that of a join
 abbrev pub part_builder_of : PlanFields → VerityPart → PartBuilder

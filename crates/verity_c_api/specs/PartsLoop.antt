@@ -6,14 +6,13 @@
 use Rattle.std.specs.Prelude.{◌≡◌, ◌≢◌, ◌⊎◌, ◌<◌, ⊤, ℕ, ℤ, List, [], ◌∷◌, ◌++◌, length, map, take, drop, Result, Ok, IfOk}
 use Rattle.{std.specs.List.{Contains, flat_map, range_with_len}, verity_format.specs.Descriptors.digest_of_file}
 use Rattle.verity_plan.specs.{Plans.PlanFields, PlanCounts.count_under, Settings.{digest_len, fan}}
-use Rattle.verity_blocks.specs.{ClosingOrder.{closed_after, times}, Levels.{data_blocks, root}, TreeOnDevice.HoldsTree}
-use Rattle.{verity_blocks.specs.TreeWriting.tree_on_device, verity_c_api.specs.{Building.root_in, BuildingLoop.hash_block_by}}
-use Rattle.verity_builders.specs.{Feeding.{FeedCall, given, written_all}, Parts.{JoinInCalls, PartInCalls, bytes_of_part, digest_of_part}}
+use Rattle.verity_blocks.specs.{ClosingOrder.{closed_after, times}, Levels.{data_blocks, root}, TreeOnDevice.HoldsTree, TreeWriting.tree_on_device}
+use Rattle.verity_c_api.specs.{Building.root_in, BuildingLoop.hash_block_by, Statuses.{done, status_of}, declared.build.VerityFed.VerityFed}
 use Rattle.verity_c_api.specs.Parts.{AreNextDigests, HandsOutOfJoin, HandsOutOfPart, IsDigestOfFed, IsFedPartTo, IsJoinedTo, TakesDigests}
 use Rattle.verity_c_api.specs.Parts.{TakesPartPiece, begun_join, begun_part, file_digest_of, join_builder_of, part_builder_of, with_digests}
 use Rattle.verity_c_api.specs.Parts.{with_join_memory, with_joined, with_joined_file, with_part_fed, with_part_memory, with_part_piece}
-use Rattle.verity_c_api.specs.{Statuses.{done, status_of}, declared.build.{VerityFed.VerityFed, VerityJoin.VerityJoin}}
-use Rattle.verity_c_api.specs.declared.{build.VerityPart.VerityPart, fault.Fault.Fault}
+use Rattle.verity_c_api.specs.declared.{build.{VerityJoin.VerityJoin, VerityPart.VerityPart}, fault.Fault.Fault}
+use Rattle.verity_builders.specs.{Feeding.{FeedCall, given, written_all}, Parts.{JoinInCalls, PartInCalls, bytes_of_part, digest_of_part}}
 
 -- what is kept of a part between two calls
 pub record KeptPart : Type 0 where

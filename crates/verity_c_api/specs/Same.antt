@@ -1,7 +1,6 @@
 -- What a comparison of parameters with trusted ones answers.
 use Rattle.std.specs.Prelude.{◌≡◌, ◌⊎◌, ℤ, Result, Ok, Err}
-use Rattle.verity_plan.specs.Plans.{PlanFields}
-use Rattle.verity_c_api.specs.{Statuses.{done, fault_status}, declared.fault.Fault.{Fault, TheVariants.Differs}}
+use Rattle.{verity_plan.specs.Plans.PlanFields, verity_c_api.specs.{Statuses.{done, fault_status}, declared.fault.Fault.{Fault, TheVariants.Differs}}}
 
 -- trees of the same data blocks are the same: settings and number of data blocks are equal
 pub record IsSame (p q : PlanFields) : Type 0 where

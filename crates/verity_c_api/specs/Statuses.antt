@@ -2,10 +2,10 @@
 use Rattle.std.specs.Prelude.{ℕ, ℤ, pos, neg_ℤ, Result, Ok, Err}
 use Rattle.{verity_format.specs.declared.super_fault.SuperFault.SuperFault, verity_builders.specs.declared.feed_fault.FeedFault.FeedFault}
 use Rattle.verity_plan.specs.declared.{plan_fault.PlanFault.PlanFault, setting_fault.SettingFault.SettingFault}
-use Rattle.{verity_pass.specs.declared.{link.LinkFault.LinkFault, path.PathFault.PathFault}, verity_c_api.specs.declared.fault.Fault.Fault}
+use Rattle.verity_pass.specs.declared.{link.LinkFault.LinkFault, path.PathFault.PathFault}
+use Rattle.verity_c_api.specs.declared.fault.Fault.{Fault, TheVariants.{TooLong, TooShort, Waiting, Part}}
 use Rattle.verity_c_api.specs.declared.fault.Fault.TheVariants.{Differs, Index, Level, Length, Root, Algorithm, HashType, DataBlockSize}
-use Rattle.verity_c_api.specs.declared.fault.Fault.TheVariants.{HashBlockSize, SaltSize, HashOffset, NoData, TooLarge, Short, Signature}
-use Rattle.verity_c_api.specs.declared.fault.Fault.TheVariants.{Version, TooLong, TooShort, Waiting, Part}
+use Rattle.verity_c_api.specs.declared.fault.Fault.TheVariants.{HashBlockSize, SaltSize, HashOffset, NoData, TooLarge, Short, Signature, Version}
 use Rattle.verity_format.specs.declared.super_fault.SuperFault.TheVariants as superblock
 use Rattle.verity_plan.specs.declared.plan_fault.PlanFault.TheVariants as plan
 use Rattle.verity_plan.specs.declared.setting_fault.SettingFault.TheVariants as setting

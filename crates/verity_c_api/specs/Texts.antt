@@ -1,10 +1,10 @@
 -- The texts of the library for C: what a status means, and the name of a hash function; and a buffer that a text is
 -- written into, with a zero after it, as texts of C end.
-use Rattle.std.specs.Prelude.{ℕ, ℤ, pos, int_lt, unsigned_abs, ◌+◌, ◌==◌, List, ◌∷◌, ◌++◌, codes, drop, length, nat_lt, Option, Some, None}
-use Rattle.std.specs.Prelude.{Result, Ok, Err, if◌then◌else◌}
-use Rattle.verity_c_api.specs.declared.fault.Fault.{Fault, TheVariants.{Version, TooLong, TooShort, Waiting, Part}}
-use Rattle.verity_c_api.specs.declared.fault.Fault.TheVariants.{Differs, Index, Level, Length, Root, Algorithm, HashType, DataBlockSize}
-use Rattle.verity_c_api.specs.declared.fault.Fault.TheVariants.{HashBlockSize, SaltSize, HashOffset, NoData, TooLarge, Short, Signature}
+use Rattle.std.specs.Prelude.{ℕ, ℤ, pos, int_lt, unsigned_abs, ◌+◌, ◌==◌, List, ◌∷◌, ◌++◌, codes, drop, length, nat_lt, Option, Some, None, Result}
+use Rattle.std.specs.Prelude.{Ok, Err, if◌then◌else◌}
+use Rattle.verity_c_api.specs.declared.fault.Fault.{Fault, TheVariants.{TooLarge, Short, Signature}}
+use Rattle.verity_c_api.specs.declared.fault.Fault.TheVariants.{Version, TooLong, TooShort, Waiting, Part, Differs, Index, Level, Length, Root}
+use Rattle.verity_c_api.specs.declared.fault.Fault.TheVariants.{Algorithm, HashType, DataBlockSize, HashBlockSize, SaltSize, HashOffset, NoData}
 
 -- what a fault is, in words
 abbrev pub text_of_fault : Fault → List ℕ

@@ -1,12 +1,10 @@
 -- From a trusted file digest to one block of the file: what a check has been handed by whomever, when it is trusted,
 -- and what it then shows.
 use Rattle.std.specs.Prelude.{◌≡◌, ◌⊎◌, ◌<◌, ℕ, List, length, Ok}
-use Rattle.verity_format.specs.Descriptors.{DescriptorFields, descriptor_bytes}
-use Rattle.verity_plan.specs.{Plans.{block_count, plan_of_file}, Settings.TreeSettingsFields}
-use Rattle.{verity_pass.specs.{Collisions.Collide, Paths.HasCollision}, verity_blocks.specs.Levels.{block_at, data_blocks, root_of_file}}
-use Rattle.verity_c_api.specs.Answers.{AnswersBlock, descriptor_in, file_digest_in, with_root}
-use Rattle.verity_c_api.specs.{Parameters.{fsverity_plan_of, fsverity_tree_of}, Statuses.done}
-use Rattle.verity_c_api.specs.declared.parameters.FsverityParams.{FsverityParams}
+use Rattle.{verity_format.specs.Descriptors.{DescriptorFields, descriptor_bytes}, verity_pass.specs.{Collisions.Collide, Paths.HasCollision}}
+use Rattle.{verity_blocks.specs.Levels.{block_at, data_blocks, root_of_file}, verity_plan.specs.Plans.{block_count, plan_of_file}}
+use Rattle.verity_c_api.specs.{Answers.{AnswersBlock, descriptor_in, file_digest_in, with_root}, Parameters.{fsverity_plan_of, fsverity_tree_of}}
+use Rattle.{verity_c_api.specs.{Statuses.done, declared.parameters.FsverityParams.FsverityParams}, verity_plan.specs.Settings.TreeSettingsFields}
 
 -- what a block of a file is checked by: parameters, root hash and path, none of them trusted
 pub record FileBlock : Type 0 where

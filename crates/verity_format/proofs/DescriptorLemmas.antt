@@ -1,10 +1,10 @@
 -- The bytes of a descriptor say one descriptor.
-use Rattle.std.proofs.Common.{◌≡◌, ℕ, ◌-◌, ◌*◌, ◌^◌, ◌<◌, ◌≤◌, true, List, [], ◌∷◌, ◌++◌, get_or, take, drop, length, replicate, arith, sym}
-use Rattle.std.proofs.{Common.{subst, ◌∙◌, ap, refl, append_assoc, length-append}, lemmas.List.{drop_at, length-replicate, take_at}}
+use Rattle.std.proofs.Common.{◌≡◌, ℕ, ◌-◌, ◌*◌, ◌^◌, ◌<◌, ◌≤◌, true, List, [], ◌∷◌, ◌++◌, get_or, take, drop, length, replicate, arith, sym, subst}
+use Rattle.std.proofs.{Common.{◌∙◌, ap, refl, append_assoc, length-append}, lemmas.List.{drop_at, length-replicate, take_at}}
 use Rattle.{std.specs.Int.is_power_of_two, byteorder.specs.{Endian.{little_bytes, little_number}, Numbers.little_number-reads_back}}
 use Rattle.verity_hash.specs.{Hashing.{digest_len_of, with_zeros}, declared.algorithm.Algorithm.{Algorithm, TheVariants.{Sha256, Sha512}}}
-use Rattle.{verity_plan.specs.Settings.{TreeSettingsFields, is_of_fsverity, log2}, verity_format.proofs.SuperblockLemmas.tree-same}
-use Rattle.verity_plan.proofs.{FanLemmas.{block_power, digest_len_of-most, log2-is, some_data}, FitLemmas.power_of_two-is}
+use Rattle.verity_plan.{specs.Settings.{TreeSettingsFields, is_of_fsverity, log2}, proofs.FitLemmas.power_of_two-is}
+use Rattle.{verity_plan.proofs.FanLemmas.{block_power, digest_len_of-most, log2-is, some_data}, verity_format.proofs.SuperblockLemmas.tree-same}
 use Rattle.verity_format.specs.Descriptors.{DescriptorFields, IsValidDescriptor, algorithm_number, descriptor_bytes}
 
 -- what stands before the size

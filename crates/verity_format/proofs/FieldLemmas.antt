@@ -1,7 +1,7 @@
 -- A block that is written field by field.
-use Rattle.std.proofs.Common.{◌≡◌, ℕ, ◌+◌, ◌-◌, ◌≤◌, List, ◌++◌, length, take, drop, replicate, arith, sym, ap, ◌∙◌, append_assoc}
-use Rattle.{std.proofs.{Common.length-append, Math.Seq.take-add, lemmas.List.take_at}, verity_hash.specs.Hashing.{with_zeros, IsPadded}}
-use Rattle.std.proofs.lemmas.List.{drop-replicate, drop_at, length-replicate, length-take-le, replicate-append-replicate, take-replicate}
+use Rattle.std.proofs.Common.{◌≡◌, ℕ, ◌+◌, ◌-◌, ◌≤◌, List, ◌++◌, length, take, drop, replicate, arith, sym, ap, ◌∙◌, append_assoc, length-append}
+use Rattle.{std.proofs.Math.Seq.take-add, verity_hash.specs.Hashing.{with_zeros, IsPadded}}
+use Rattle.std.proofs.lemmas.List.{take_at, drop-replicate, drop_at, length-replicate, length-take-le, replicate-append-replicate, take-replicate}
 use borrow.Rule.Slice.PartMut.{put_mid}
 
 -- there are as many bytes of fields as were appended

@@ -1,10 +1,9 @@
 -- A name says one algorithm, and a number one hash type.
 use Rattle.std.proofs.Common.{◌≡◌, ◌⊎◌, ℕ, Bool, true, false, List, Option, Some, None, cond, codes, inl, inr, refl, ap, sym, ◌∙◌}
 use Rattle.std.{proofs.lemmas.Bool.eqb-true, specs.{Prelude.◌==◌, Cmp.Lexicographic.bytes_decides, Str.bytes_eq}}
-use Rattle.verity_hash.specs.{Hashing.{algorithm_named, name_of}, declared.algorithm.Algorithm.Algorithm}
-use Rattle.verity_hash.specs.declared.algorithm.Algorithm.TheVariants.{Sha256, Sha512, Sha1, Sha224, Sha384}
+use Rattle.verity_hash.specs.{declared.algorithm.Algorithm.TheVariants.{Sha256, Sha512, Sha1, Sha224, Sha384}, Hashing.{algorithm_named, name_of}}
 use Rattle.verity_plan.specs.{CheckedSettings.type_of_number, Settings.type_number, declared.hash_type.HashType.HashType}
-use Rattle.verity_plan.specs.declared.hash_type.HashType.TheVariants.{Original, Current}
+use Rattle.{verity_plan.specs.declared.hash_type.HashType.TheVariants.{Original, Current}, verity_hash.specs.declared.algorithm.Algorithm.Algorithm}
 
 pub named-back : (algorithm : Algorithm) → algorithm_named (name_of algorithm) ≡ Some algorithm
 named-back Sha256 = refl

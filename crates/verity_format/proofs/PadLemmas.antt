@@ -1,11 +1,10 @@
 -- Superblocks that agree outside the pads are read the same.
-use Rattle.std.proofs.Common.{◌≡◌, ◌≢◌, ◌↔◌, ℕ, zero, suc, ◌+◌, ◌-◌, ◌*◌, ◌<◌, ◌≤◌, Bool, true, false, List, length, take, drop, get_or}
-use Rattle.std.proofs.{Common.{Some, None, cond, nat_le, nat_lt, arith, refl, ap, sym, ◌∙◌, length-drop}, lemmas.Bool.le-leb}
-use Rattle.std.proofs.lemmas.{Bool.Decides.nat_tests, List.{ext_get_or, get_or-drop, get_or-take, length-take, length-take-le, take_all}}
-use Rattle.std.proofs.lemmas.List.{Folds.length-prefix_len, Sums.{fails_before_first, passes_at_first, position_or_len_is}}
-use Rattle.{std.specs.{Prelude.{◌==◌, not, unwrap_or}, List.position_or_len}, byteorder.specs.Endian.little_from}
-use Rattle.{verity_plan.proofs.LimitLemmas.salt_most, verity_format.specs.Pads.{AgreeOutsidePads, SameBetween}}
-use Rattle.verity_format.specs.Superblocks.{field, number_at, until_zero, SuperblockFields, IsSuperblock}
+use Rattle.std.proofs.Common.{◌≡◌, ◌≢◌, ◌↔◌, ℕ, zero, suc, ◌+◌, ◌-◌, ◌*◌, ◌<◌, ◌≤◌, Bool, true, false, List, length, take, drop, get_or, Some, None}
+use Rattle.std.proofs.{Common.{cond, nat_le, nat_lt, arith, refl, ap, sym, ◌∙◌, length-drop}, lemmas.Bool.{le-leb, Decides.nat_tests}}
+use Rattle.std.proofs.lemmas.List.{ext_get_or, get_or-drop, get_or-take, length-take, length-take-le, take_all, Folds.length-prefix_len}
+use Rattle.std.{proofs.lemmas.List.Sums.{fails_before_first, passes_at_first, position_or_len_is}, specs.Prelude.{◌==◌, not, unwrap_or}}
+use Rattle.{std.specs.List.position_or_len, byteorder.specs.Endian.little_from, verity_plan.proofs.LimitLemmas.salt_most}
+use Rattle.verity_format.specs.{Pads.{AgreeOutsidePads, SameBetween}, Superblocks.{field, number_at, until_zero, SuperblockFields, IsSuperblock}}
 use Rattle.verity_format.specs.CheckedSuperblocks.{superblock_fault}
 
 -- the same bytes are the same number

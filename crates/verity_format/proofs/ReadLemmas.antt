@@ -1,13 +1,12 @@
 -- Reading a superblock: which test fails first, and what is made of the parts that pass.
-use Rattle.std.proofs.Common.{◌≡◌, ℕ, ◌*◌, ◌<◌, ◌≤◌, ◌&&◌, Bool, true, false, List, [], ◌∷◌, ◌++◌, length, Option, Some, None, Ok}
-use Rattle.std.proofs.{Common.{if◌then◌else◌, nat_le, nat_lt, take, arith, sym, ap, ◌∙◌, refl, subst}, lemmas.Bool.Decides.nat_tests}
-use Rattle.{verity_hash.specs.declared.algorithm.Algorithm.Algorithm, verity_io.specs.Writing.most_bytes}
+use Rattle.std.proofs.Common.{◌≡◌, ℕ, ◌*◌, ◌<◌, ◌≤◌, ◌&&◌, Bool, true, false, List, [], ◌∷◌, ◌++◌, length, Option, Some, None, Ok, if◌then◌else◌}
+use Rattle.{verity_hash.specs.declared.algorithm.Algorithm.Algorithm, verity_io.specs.Writing.most_bytes, std.proofs.lemmas.Bool.Decides.nat_tests}
 use Rattle.verity_plan.specs.{Settings.{TreeSettingsFields, IsValid, rule_of}, declared.hash_type.HashType.TheVariants.{Original, Current}}
 use Rattle.verity_plan.specs.{CheckedSettings.{is_verity_block_size, verity_settings, type_of_number}, declared.hash_type.HashType.HashType}
 use Rattle.verity_format.specs.Superblocks.{SuperblockFields, field, number_at, until_zero, IsSuperblock, signature}
 use Rattle.verity_format.specs.CheckedSuperblocks.{superblock_of, superblock_of_type, hash_type_of, superblock_fault, first_failed}
-use Rattle.verity_format.specs.SuperblockSteps.{AreSettings, blocks_tests, type_tests, settings_tests}
-use Rattle.verity_format.{specs.declared.super_fault.SuperFault.SuperFault, proofs.NameLemmas.{named-is, numbered-is}}
+use Rattle.verity_format.specs.{SuperblockSteps.{AreSettings, blocks_tests, type_tests, settings_tests}, declared.super_fault.SuperFault.SuperFault}
+use Rattle.{verity_format.proofs.NameLemmas.{named-is, numbered-is}, std.proofs.Common.{nat_le, nat_lt, take, arith, sym, ap, ◌∙◌, refl, subst}}
 
 -- if these tests pass, those after them decide
 first_failed-passed : (xs ys : List (Bool × SuperFault)) → first_failed xs ≡ None

@@ -1,13 +1,13 @@
 -- Bytes say a superblock exactly if they pass every test, and then just one.
-use Rattle.std.proofs.Common.{◌≡◌, ℕ, ◌*◌, ◌<◌, ◌≤◌, Bool, true, false, List, [], ◌∷◌, length, take, drop, Option, Some, None, is_some}
-use Rattle.std.proofs.{Common.{nat_le, nat_lt, arith, refl, ap, sym, ◌∙◌, length-drop}, lemmas.Bool.{eqb-true, le-leb, leb-true}}
-use Rattle.std.{proofs.lemmas.{Bool.Decides.nat_tests, List.length-take-le}, specs.Cmp.Lexicographic.bytes_decides}
+use Rattle.std.proofs.Common.{◌≡◌, ℕ, ◌*◌, ◌<◌, ◌≤◌, Bool, true, false, List, [], ◌∷◌, length, take, drop, Option, Some, None, is_some, nat_le}
+use Rattle.std.proofs.{Common.{nat_lt, arith, refl, ap, sym, ◌∙◌, length-drop}, lemmas.Bool.{eqb-true, le-leb, leb-true, Decides.nat_tests}}
+use Rattle.{std.{proofs.lemmas.List.length-take-le, specs.Cmp.Lexicographic.bytes_decides}, verity_io.specs.Writing.most_bytes}
 use Rattle.verity_hash.specs.{Hashing.algorithm_named, declared.{algorithm.Algorithm.Algorithm, salting.SaltRule.SaltRule}}
-use Rattle.{verity_io.specs.Writing.most_bytes, verity_plan.specs.Settings.{TreeSettingsFields, IsValid, digest_len, least_block, rule_of}}
-use Rattle.verity_plan.specs.{CheckedSettings.{is_verity_block_size, type_of_number}, declared.hash_type.HashType.HashType}
-use Rattle.{verity_plan.proofs.LimitLemmas.{least-verity, salt_most}, verity_format.specs.declared.super_fault.SuperFault.SuperFault}
+use Rattle.verity_plan.specs.{Settings.{TreeSettingsFields, IsValid, digest_len, least_block, rule_of}, declared.hash_type.HashType.HashType}
+use Rattle.verity_plan.{specs.CheckedSettings.{is_verity_block_size, type_of_number}, proofs.LimitLemmas.{least-verity, salt_most}}
+use Rattle.verity_format.specs.{declared.super_fault.SuperFault.SuperFault, CheckedSuperblocks.{superblock_fault, first_failed, superblock_tests}}
 use Rattle.verity_format.specs.Superblocks.{field, number_at, until_zero, SuperblockFields, IsSuperblock, signature}
-use Rattle.verity_format.{specs.CheckedSuperblocks.{superblock_fault, first_failed, superblock_tests}, proofs.ReadLemmas.IsValid-verity}
+use Rattle.verity_format.proofs.ReadLemmas.{IsValid-verity}
 use Rattle.verity_format.proofs.NameLemmas.{name_of-same, named-back, named-is, numbered-back, numbered-is, type_number-same}
 
 -- every test is passed

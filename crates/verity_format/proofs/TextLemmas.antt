@@ -1,13 +1,11 @@
 -- The bytes of a superblock say it.
-use Rattle.std.proofs.Common.{◌≡◌, ℕ, ◌+◌, ◌-◌, ◌*◌, ◌<◌, ◌≤◌, List, ◌++◌, length, take, drop, replicate, arith, refl, ap, sym, ◌∙◌}
-use Rattle.std.proofs.{Common.{append_assoc, length-append}, Math.{Nat.le-mul_of_pos_right, Seq.drop-append-add}}
-use Rattle.{std.proofs.lemmas.List.{drop_at, length-replicate, take_at}, verity_format.specs.Superblocks.superblock_bytes}
-use Rattle.byteorder.specs.{Endian.{little_bytes, little_number}, Numbers.little_number-reads_back}
-use Rattle.verity_hash.specs.{Hashing.{name_of, with_zeros}, declared.algorithm.Algorithm.Algorithm}
-use Rattle.verity_hash.specs.declared.algorithm.Algorithm.TheVariants.{Sha256, Sha512, Sha1, Sha224, Sha384}
+use Rattle.std.proofs.Common.{◌≡◌, ℕ, ◌+◌, ◌-◌, ◌*◌, ◌<◌, ◌≤◌, List, ◌++◌, length, take, drop, replicate, arith, refl, ap, sym, ◌∙◌, append_assoc}
+use Rattle.std.proofs.{Common.length-append, Math.{Nat.le-mul_of_pos_right, Seq.drop-append-add}, lemmas.List.{drop_at, length-replicate, take_at}}
+use Rattle.verity_format.specs.Superblocks.{superblock_bytes, number_at, until_zero, SuperblockFields, IsValidSuperblock, IsSuperblock, signature}
+use Rattle.{byteorder.specs.{Endian.{little_bytes, little_number}, Numbers.little_number-reads_back}, verity_hash.specs.Hashing.{name_of, with_zeros}}
+use Rattle.verity_hash.specs.declared.algorithm.Algorithm.{TheVariants.{Sha256, Sha512, Sha1, Sha224, Sha384}, Algorithm}
 use Rattle.verity_plan.specs.{Settings.type_number, declared.hash_type.HashType.{HashType, TheVariants.{Original, Current}}}
 use Rattle.verity_plan.proofs.{FanLemmas.{data_most, hash_most, some_data}, LimitLemmas.salt_most}
-use Rattle.verity_format.specs.Superblocks.{number_at, until_zero, SuperblockFields, IsValidSuperblock, IsSuperblock, signature}
 
 -- what follows the name
 tail : SuperblockFields → List ℕ → List ℕ

@@ -1,12 +1,11 @@
 -- Which settings have a superblock, and the tests by which bytes are one (cryptsetup's on-disk format page, "dm-verity
 -- header"). The order of the tests is this project's own.
-use Rattle.std.specs.Prelude.{ℕ, ◌==◌, List, length, take, ◌*◌, ◌&&◌, nat_le, nat_lt, Option, Some, None, if◌then◌else◌, Bool, [], ◌∷◌}
-use Rattle.std.specs.Prelude.{is_some}
+use Rattle.std.specs.Prelude.{ℕ, ◌==◌, List, length, take, ◌*◌, ◌&&◌, nat_le, nat_lt, Option, Some, None, if◌then◌else◌, Bool, [], ◌∷◌, is_some}
 use Rattle.{std.specs.Str.bytes_eq, verity_io.specs.Writing.most_bytes, verity_format.specs.declared.super_fault.SuperFault.SuperFault}
-use Rattle.verity_hash.specs.{Hashing.algorithm_named, declared.salting.SaltRule.{SaltRule, TheVariants.{Before, After, PaddedBefore}}}
-use Rattle.verity_plan.specs.{Settings.{TreeSettingsFields, most_salt}, CheckedSettings.{is_verity_block_size, type_of_number}}
-use Rattle.verity_plan.specs.{Plans.superblock_size, declared.hash_type.HashType.{HashType, TheVariants.{Original, Current}}}
 use Rattle.verity_format.specs.Superblocks.{field, number_at, until_zero, SuperblockFields, signature, superblock_version}
+use Rattle.verity_hash.specs.{Hashing.algorithm_named, declared.salting.SaltRule.{SaltRule, TheVariants.{Before, After, PaddedBefore}}}
+use Rattle.verity_plan.specs.{Settings.{TreeSettingsFields, most_salt}, CheckedSettings.{is_verity_block_size, type_of_number}, Plans.superblock_size}
+use Rattle.verity_plan.specs.declared.hash_type.HashType.{HashType, TheVariants.{Original, Current}}
 use Rattle.verity_format.specs.declared.super_fault.SuperFault.TheVariants as fault
 
 -- the hash type that puts its salt there; fs-verity's settings have none

@@ -2,9 +2,8 @@
 -- computation"), and what is signed of a file digest (the same page, "Built-in signature verification", struct
 -- fsverity_formatted_digest).
 use Rattle.std.specs.Prelude.{◌≡◌, ℕ, ◌^◌, ◌<◌, List, [], ◌∷◌, ◌++◌, length, replicate, codes}
-use Rattle.{byteorder.specs.Endian.little_bytes, verity_hash.specs.{Hashing.{hash_of, with_zeros}, declared.algorithm.Algorithm.Algorithm}}
-use Rattle.verity_hash.specs.declared.algorithm.Algorithm.TheVariants.{Sha256, Sha512, Sha1, Sha224, Sha384}
-use Rattle.verity_hash.specs.declared.salting.SaltRule.TheVariants.{PaddedBefore}
+use Rattle.{byteorder.specs.Endian.little_bytes, verity_hash.specs.declared.algorithm.Algorithm.TheVariants.{Sha256, Sha512, Sha1, Sha224, Sha384}}
+use Rattle.verity_hash.specs.{Hashing.{hash_of, with_zeros}, declared.{algorithm.Algorithm.Algorithm, salting.SaltRule.TheVariants.PaddedBefore}}
 use Rattle.verity_plan.specs.Settings.{log2, TreeSettingsFields, IsValid, digest_len}
 
 -- how the tree is made, the file's size in bytes, and the root hash

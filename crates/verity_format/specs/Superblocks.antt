@@ -14,9 +14,9 @@
 --       88     256  salt                   salt, then zeros        the first salt size bytes
 --      344     168  pad                    zeros                   ignored
 use Rattle.std.specs.Prelude.{ℕ, ◌==◌, List, length, take, drop, position, unwrap_or, ◌≡◌, ◌*◌, ◌<◌, ◌≤◌, [], ◌∷◌, ◌++◌, replicate, codes}
-use Rattle.{byteorder.specs.Endian.{little_number, little_bytes}, verity_hash.specs.Hashing.{name_of, with_zeros}}
-use Rattle.{verity_io.specs.Writing.most_bytes, verity_plan.specs.declared.hash_type.HashType.HashType}
-use Rattle.verity_plan.specs.{Settings.{TreeSettingsFields, IsValid, rule_of, type_number}, Plans.superblock_size}
+use Rattle.{byteorder.specs.Endian.{little_number, little_bytes}, verity_hash.specs.Hashing.{name_of, with_zeros}, verity_io.specs.Writing.most_bytes}
+use Rattle.verity_plan.specs.{declared.hash_type.HashType.HashType, Settings.{TreeSettingsFields, IsValid, rule_of, type_number}}
+use Rattle.verity_plan.specs.Plans.{superblock_size}
 
 -- the n bytes from offset `at`
 abbrev pub field : ℕ → ℕ → List ℕ → List ℕ

@@ -2,8 +2,8 @@
 use Rattle.std.proofs.{Common.{ℕ, zero, suc, ◌-◌, ◌<◌, List, [], ◌∷◌, ◌++◌, length, take, arith, refl, inl, inr, ◌≡◌}, lemmas.Bool.cases_lt}
 use Rattle.{std.{proofs.lemmas.List.{get_or-append_right, get_or_append_left}, specs.Prelude.slice_index}, sha1.specs.Sha1.sha1}
 use Rattle.{std.specs.Int.{bytes_high_first, to_be_bytes, w32, w64}, sha2.specs.{Sha256.{sha224, sha256}, Sha512.{sha384, sha512}}}
-use Rattle.verity_hash.specs.{Hashing.{hash_of, salted_hash, salted_input}, declared.algorithm.Algorithm.Algorithm}
-use Rattle.verity_hash.specs.declared.{algorithm.Algorithm.TheVariants.{Sha256, Sha512, Sha1, Sha224, Sha384}, salting.SaltRule.SaltRule}
+use Rattle.verity_hash.specs.{Hashing.{hash_of, salted_hash, salted_input}, declared.{algorithm.Algorithm.Algorithm, salting.SaltRule.SaltRule}}
+use Rattle.verity_hash.specs.declared.algorithm.Algorithm.TheVariants.{Sha256, Sha512, Sha1, Sha224, Sha384}
 use Rattle.sha1.specs.Sha1 as S1
 use Rattle.sha2.specs.Sha256 as S256
 use Rattle.sha2.specs.Sha512 as S512

@@ -2,10 +2,9 @@
 -- fsverity(1)), and the salted hash of a block (Linux kernel, dm-verity page, "Construction Parameters", `<version>`
 -- and `<salt>`, and fs-verity page, "Merkle tree").
 use Rattle.std.specs.Prelude.{ℕ, List, codes, Option, Some, None, if◌then◌else◌, ◌≡◌, ◌-◌, ◌≤◌, ◌++◌, length, take, replicate}
-use Rattle.{std.specs.{Str.bytes_eq, Int.next_multiple_of}, sha1.specs.Sha1.sha1}
-use Rattle.sha2.specs.{Sha256.{sha224, sha256}, Sha512.{sha384, sha512}}
-use Rattle.verity_hash.specs.declared.algorithm.Algorithm.{Algorithm, TheVariants.{Sha256, Sha512, Sha1, Sha224, Sha384}}
-use Rattle.verity_hash.specs.declared.salting.SaltRule.{SaltRule, TheVariants.{Before, After, PaddedBefore}}
+use Rattle.{std.specs.{Str.bytes_eq, Int.next_multiple_of}, sha1.specs.Sha1.sha1, sha2.specs.{Sha256.{sha224, sha256}, Sha512.{sha384, sha512}}}
+use Rattle.verity_hash.specs.declared.{algorithm.Algorithm.{Algorithm, TheVariants.{Sha256, Sha512, Sha1, Sha224, Sha384}}, salting.SaltRule.SaltRule}
+use Rattle.verity_hash.specs.declared.salting.SaltRule.TheVariants.{Before, After, PaddedBefore}
 
 -- the hash function, from a message to its digest
 abbrev pub hash_of : Algorithm → List ℕ → List ℕ

@@ -1,7 +1,7 @@
 -- A list that is filled up with zeros.
 use Rattle.std.proofs.Common.{◌≡◌, ℕ, ◌+◌, ◌-◌, ◌≤◌, inl, inr, List, ◌++◌, length, take, drop, replicate, sym, ◌∙◌, ap, arith, append-nil}
-use Rattle.std.proofs.{Common.length-append, lemmas.List.{take-append-le, take_all, take-replicate, drop_all, length-replicate}}
-use Rattle.{std.proofs.{lemmas.Bool.cases_lt, Math.Seq.take-append-add}, verity_io.specs.Writing.put}
+use Rattle.std.proofs.{Common.length-append, lemmas.{List.{take-append-le, take_all, take-replicate, drop_all, length-replicate}, Bool.cases_lt}}
+use Rattle.{std.proofs.Math.Seq.take-append-add, verity_io.specs.Writing.put}
 
 -- the first bytes of what was filled up to at least n
 pub take_padded : (xs : List ℕ) (at n : ℕ) → at ≤ n →

@@ -1,11 +1,10 @@
 -- What an accepted path says of the data, that the true path is accepted, and that one answer is right.
 use Rattle.std.proofs.{Common.{◌≡◌, ℕ, ◌<◌, ◌≤◌, ◌⊎◌, List, [], get_or, arith, ap, refl, inl, inr}, lemmas.Bool.cases_order}
 use Rattle.{std.specs.Prelude.{Result, Ok, Err}, verity_plan.specs.{Plans.{PlanFields, IsPlan}, PlanCounts.level_count_of, Settings.hash}}
-use Rattle.verity_blocks.specs.Levels.{data_blocks, root}
-use Rattle.verity_pass.specs.Paths.{ChecksBlock, HasCollision, IsAccepted, chain, true_chain, true_path}
-use Rattle.verity_pass.specs.declared.path.PathFault.{PathFault, TheVariants.{Index, Length, DiffersAt}}
+use Rattle.{verity_blocks.specs.Levels.{data_blocks, root}, verity_pass.proofs.PathSteps.{chains-meet, digest_above-below, digest_above-top}}
+use Rattle.verity_pass.specs.{Paths.{ChecksBlock, HasCollision, IsAccepted, chain, true_chain, true_path}, declared.path.PathFault.PathFault}
+use Rattle.verity_pass.{specs.declared.path.PathFault.TheVariants.{Index, Length, DiffersAt}, proofs.Paths.AcceptedLinks.joined-accepted}
 use Rattle.verity_pass.proofs.Paths.TrueChain.{length-data, length-true_block, true_chain-next, true_chain-top}
-use Rattle.verity_pass.proofs.{Paths.AcceptedLinks.joined-accepted, PathSteps.{chains-meet, digest_above-below, digest_above-top}}
 
 -- what is accepted is the data's, or there is a collision
 pub accepted-true : (p : PlanFields) (bytes : List ℕ) (i : ℕ) (block path : List ℕ) → IsPlan p

@@ -1,14 +1,13 @@
 -- What stands beside a tree on a device: other bytes stay, and the device gets no longer than the tree needs. And in the
 -- tree's range two devices that hold it are the same.
-use Rattle.std.proofs.Common.{◌≡◌, ℕ, ◌+◌, ◌*◌, ◌/◌, ◌%◌, ◌<◌, ◌≤◌, ◌⊎◌, List, [], ◌∷◌, length, take, drop, get_or, arith, sym, subst, ◌∙◌}
-use Rattle.std.proofs.{Common.{ap, refl, inl, inr}, lemmas.{Grind.common_steps, Nat.{div-add-mod', div_below, le-div, mod_below}}}
-use Rattle.{std.proofs.Math.Nat.mul-le-mul_right, verity_io.specs.Writing.put, verity_blocks.proofs.Levels.CutBlocks.length-cut}
-use Rattle.verity_plan.specs.Plans.{HasBlock, IsPlan, IsTreeBlock, PlanFields, end_place_of, start_byte, start_byte_of}
-use Rattle.verity_plan.{specs.Settings.{TreeSettingsFields, fan}, proofs.{FanLemmas.fan-some, FitLemmas.fan-fits}}
-use Rattle.verity_plan.proofs.{PlaceLemmas.PlacesAreOnce-all, PlanLemmas.some_hash}
-use Rattle.verity_blocks.specs.{ClosingOrder.{BlockIndex, closed_after, times}, Levels.data_blocks, TreeOnDevice.{HoldsTree, tree_block}}
-use Rattle.verity_blocks.{specs.TreeWriting.{device_with, tree_on_device}, proofs.Order.TimesCounted.{times-first, times-more}}
-use Rattle.verity_blocks.proofs.Order.{ClosesOnce.ClosesOnce-all, PlacedBlocks.{length-put, length-tree_block, put-byte, range-within}}
+use Rattle.std.proofs.Common.{◌≡◌, ℕ, ◌+◌, ◌*◌, ◌/◌, ◌%◌, ◌<◌, ◌≤◌, ◌⊎◌, List, [], ◌∷◌, length, take, drop, get_or, arith, sym, subst, ◌∙◌, ap, refl}
+use Rattle.std.proofs.{Common.{inl, inr}, lemmas.{Grind.common_steps, Nat.{div-add-mod', div_below, le-div, mod_below}}, Math.Nat.mul-le-mul_right}
+use Rattle.{verity_io.specs.Writing.put, verity_blocks.specs.{TreeOnDevice.{HoldsTree, tree_block}, TreeWriting.{device_with, tree_on_device}}}
+use Rattle.verity_blocks.{proofs.Levels.CutBlocks.length-cut, specs.{ClosingOrder.{BlockIndex, closed_after, times}, Levels.data_blocks}}
+use Rattle.verity_blocks.proofs.Order.{TimesCounted.{times-first, times-more}, ClosesOnce.ClosesOnce-all}
+use Rattle.verity_blocks.proofs.Order.PlacedBlocks.{length-put, length-tree_block, put-byte, range-within}
+use Rattle.verity_plan.{specs.Plans.{HasBlock, IsPlan, IsTreeBlock, PlanFields, end_place_of, start_byte, start_byte_of}, proofs.FanLemmas.fan-some}
+use Rattle.verity_plan.{specs.Settings.{TreeSettingsFields, fan}, proofs.{FitLemmas.fan-fits, PlaceLemmas.PlacesAreOnce-all, PlanLemmas.some_hash}}
 
 -- ---- blocks that are put one after another
 

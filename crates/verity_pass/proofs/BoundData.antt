@@ -1,10 +1,10 @@
 -- Trees with one root hash stand above the same data, or show a collision.
-use Rattle.std.proofs.Common.{◌≡◌, ◌≢◌, ℕ, zero, suc, ◌+◌, ◌*◌, ◌/◌, ◌%◌, ◌<◌, ◌≤◌, ◌⊎◌, List, [], get_or, take, drop, length, arith, sym}
-use Rattle.std.{proofs.Common.{◌∙◌, ap, refl, inl, inr, length-append, below_more}, specs.Int.{div_ceil, next_multiple_of}}
+use Rattle.std.proofs.Common.{◌≡◌, ◌≢◌, ℕ, zero, suc, ◌+◌, ◌*◌, ◌/◌, ◌%◌, ◌<◌, ◌≤◌, ◌⊎◌, List, [], get_or, take, drop, length, arith, sym, ◌∙◌, ap}
+use Rattle.std.{proofs.{Common.{refl, inl, inr, length-append, below_more}, lemmas.Grind.common_steps}, specs.Int.{div_ceil, next_multiple_of}}
 use Rattle.std.proofs.lemmas.List.{append_cancel_left, append_cancel_right, drop_at, ext_get_or, length-take-le, take_at}
-use Rattle.std.proofs.lemmas.{List.FromFn.get_or-map-range_with_len, Grind.common_steps, Nat.{div-add-mod', div_below, mod_below}}
-use Rattle.verity_hash.specs.{Hashing.{input_block_of, salted_input, with_zeros}, declared.algorithm.Algorithm.Algorithm}
-use Rattle.verity_hash.specs.declared.salting.SaltRule.{SaltRule, TheVariants.{Before, After, PaddedBefore}}
+use Rattle.std.proofs.lemmas.{List.FromFn.get_or-map-range_with_len, Nat.{div-add-mod', div_below, mod_below}}
+use Rattle.verity_hash.specs.{Hashing.{input_block_of, salted_input, with_zeros}, declared.{algorithm.Algorithm.Algorithm, salting.SaltRule.SaltRule}}
+use Rattle.verity_hash.specs.declared.salting.SaltRule.TheVariants.{Before, After, PaddedBefore}
 use Rattle.verity_plan.specs.{Plans.{IsPlan, PlanFields, level_count}, PlanCounts.level_count_of, Settings.{TreeSettingsFields, fan, hash}}
 use Rattle.verity_plan.proofs.{CountLemmas.le-div_ceil, FanLemmas.{fan-two, some_data}, PlanLemmas.blocks-some}
 use Rattle.verity_pass.specs.{Collisions.{Collide, TreesCollide, hashed_last, with_salt}, Links.block_size_up, Paths.true_chain}

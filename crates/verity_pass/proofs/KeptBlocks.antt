@@ -1,6 +1,6 @@
 -- Blocks that a reader keeps are the tree's, or a collision.
-use Rattle.std.proofs.Common.{◌≡◌, ℕ, zero, suc, ◌+◌, ◌/◌, ◌^◌, ◌<◌, ◌⊎◌, List, arith, sym, subst, ◌∙◌, ap, inl, inr}
-use Rattle.{std.{proofs.lemmas.Bool.cases_lt, specs.Prelude.Ok}, verity_plan.specs.{Plans.{PlanFields, IsPlan}, Settings.fan}}
+use Rattle.std.proofs.{Common.{◌≡◌, ℕ, zero, suc, ◌+◌, ◌/◌, ◌^◌, ◌<◌, ◌⊎◌, List, arith, sym, subst, ◌∙◌, ap, inl, inr}, lemmas.Bool.cases_lt}
+use Rattle.{std.specs.Prelude.Ok, verity_plan.specs.{Plans.{PlanFields, IsPlan}, Settings.fan}}
 use Rattle.verity_pass.specs.KeptBlocks.{AreAccepted, AreTrueOrCollide, CheckedBlock, IsAcceptedAsTop, IsAcceptedUnder, true_block}
 use Rattle.verity_pass.{specs.{Links.{IsCollision, checked_link}, Paths.true_chain}, proofs.Paths.AcceptedLinks.{link-true, top-true}}
 use Rattle.verity_blocks.specs.{Levels.{data_blocks, root}, TreeOnDevice.tree_block}

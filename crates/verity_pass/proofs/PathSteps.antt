@@ -1,9 +1,8 @@
 -- The check of a path, level by level, and chains of blocks that meet.
-use Rattle.std.proofs.Common.{◌≡◌, ℕ, suc, ◌+◌, ◌-◌, ◌*◌, ◌/◌, ◌%◌, ◌^◌, ◌<◌, ◌≤◌, false, List, take, drop, arith, sym, ap, ◌≢◌, ◌⊎◌, zero}
-use Rattle.std.proofs.{Common.{inl, inr}, lemmas.{Bool.{cases_Bool, Decides.{nat_tests, not_from_Decides}}, Slice.Eq.bytes_eq-Decides}}
-use Rattle.{std.specs.{Fork.slice_chunk, Str.bytes_eq}, verity_blocks.proofs.OpenBlocks.DigestsInTurn.range-is_run}
-use Rattle.verity_pass.specs.{Paths.{chain, digest_above}, Verdicts.digest_in}
-use Rattle.verity_plan.specs.{Plans.PlanFields, PlanCounts.level_count_of, Settings.{TreeSettingsFields, fan}}
+use Rattle.std.proofs.Common.{◌≡◌, ℕ, suc, ◌+◌, ◌-◌, ◌*◌, ◌/◌, ◌%◌, ◌^◌, ◌<◌, ◌≤◌, false, List, take, drop, arith, sym, ap, ◌≢◌, ◌⊎◌, zero, inl, inr}
+use Rattle.std.{proofs.lemmas.{Bool.{cases_Bool, Decides.{nat_tests, not_from_Decides}}, Slice.Eq.bytes_eq-Decides}, specs.Fork.slice_chunk}
+use Rattle.{std.specs.Str.bytes_eq, verity_blocks.proofs.OpenBlocks.DigestsInTurn.range-is_run, verity_pass.specs.Paths.{chain, digest_above}}
+use Rattle.{verity_plan.specs.{Plans.PlanFields, PlanCounts.level_count_of, Settings.{TreeSettingsFields, fan}}, verity_pass.specs.Verdicts.digest_in}
 
 -- one block further up the chain
 pub chain-more : (s : TreeSettingsFields) (block path : List ℕ) (l : ℕ)

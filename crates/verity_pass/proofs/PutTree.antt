@@ -1,13 +1,11 @@
 -- A device on which the tree's blocks were put at their places holds the whole tree.
-use Rattle.std.proofs.Common.{◌≡◌, ℕ, ◌+◌, ◌*◌, ◌<◌, ◌≤◌, ◌⊎◌, List, [], ◌∷◌, length, take, drop, arith, sym, subst, ◌∙◌, ap, refl, inl}
-use Rattle.{std.proofs.Common.inr, verity_io.specs.Writing.put, verity_blocks.proofs.Levels.CutBlocks.length-cut}
-use Rattle.verity_plan.specs.Plans.{IsPlan, IsTreeBlock, PlanFields, start_byte, start_byte_of}
-use Rattle.verity_plan.{specs.Settings.{TreeSettingsFields, fan, slot_width}, proofs.{CountLemmas.mul_le, FanLemmas.fan-some}}
-use Rattle.verity_plan.proofs.{FitLemmas.fan-fits, PlaceLemmas.PlacesAreOnce-all, PlanLemmas.some_hash}
-use Rattle.verity_blocks.specs.{ClosingOrder.{BlockIndex, closed_after, times}, Levels.{data_blocks, root}}
-use Rattle.verity_blocks.specs.{TreeOnDevice.{HoldsTree, tree_block}, TreeWriting.{device_with, tree_on_device}}
+use Rattle.std.proofs.Common.{◌≡◌, ℕ, ◌+◌, ◌*◌, ◌<◌, ◌≤◌, ◌⊎◌, List, [], ◌∷◌, length, take, drop, arith, sym, subst, ◌∙◌, ap, refl, inl, inr}
+use Rattle.{verity_io.specs.Writing.put, verity_blocks.specs.{TreeOnDevice.{HoldsTree, tree_block}, TreeWriting.{device_with, tree_on_device}}}
+use Rattle.verity_blocks.{proofs.Levels.CutBlocks.length-cut, specs.{ClosingOrder.{BlockIndex, closed_after, times}, Levels.{data_blocks, root}}}
 use Rattle.verity_blocks.proofs.Order.{TimesCounted.{times-cases, times-first, times-more}, ClosesOnce.ClosesOnce-all}
 use Rattle.verity_blocks.proofs.Order.PlacedBlocks.{put-here, put-beside, range-within, apart, length-tree_block}
+use Rattle.verity_plan.specs.{Plans.{IsPlan, IsTreeBlock, PlanFields, start_byte, start_byte_of}, Settings.{TreeSettingsFields, fan, slot_width}}
+use Rattle.verity_plan.proofs.{CountLemmas.mul_le, FanLemmas.fan-some, FitLemmas.fan-fits, PlaceLemmas.PlacesAreOnce-all, PlanLemmas.some_hash}
 
 -- a block that is put, or stands there already, stands there when all are put
 stands : (s : TreeSettingsFields) (blocks : List (List ℕ)) (base l j : ℕ) → 0 < s.hash_block

@@ -1,7 +1,7 @@
 -- The root hash: it is the same from one level up; that of a file; and how long it is.
-use Rattle.std.proofs.Common.{◌≡◌, ℕ, zero, suc, ◌-◌, inl, inr, ◌^◌, ◌<◌, ◌≤◌, List, [], length, map, get_or, arith, ◌∙◌, ap, Bool, false}
-use Rattle.std.proofs.{Common.{refl, replicate, true}, lemmas.{Bool.cases_lt, List.{length-map, get_or-map, length-replicate}}}
-use Rattle.std.{proofs.Math.Nat.{pow-zero, pow-suc, one-le-pow}, specs.{Prelude.{if◌then◌else◌, ◌==◌}, Int.div_ceil}}
+use Rattle.std.proofs.Common.{◌≡◌, ℕ, zero, suc, ◌-◌, inl, inr, ◌^◌, ◌<◌, ◌≤◌, List, [], length, map, get_or, arith, ◌∙◌, ap, Bool, false, refl}
+use Rattle.std.{proofs.{Common.{replicate, true}, lemmas.{Bool.cases_lt, List.{length-map, get_or-map, length-replicate}}}, specs.Int.div_ceil}
+use Rattle.std.{proofs.Math.Nat.{pow-zero, pow-suc, one-le-pow}, specs.Prelude.{if◌then◌else◌, ◌==◌}}
 use Rattle.verity_plan.specs.{Plans.{level_count, plan_of_file}, Settings.{TreeSettingsFields, hash, fan, digest_len}}
 use Rattle.verity_plan.proofs.CountLemmas.{IsLevelCount-level_count, IsLevelCount-same, div_ceil-pos, le-div_ceil, mul-lt_div_ceil}
 use Rattle.verity_blocks.specs.{Levels.{pack, blocks_up, root, data_blocks, root_of_file}, Steps.PlainRoots.{digests_up, root_of_digests}}

@@ -1,10 +1,9 @@
 -- What building a tree answers, how much of the source it reads, and what stands on the device after it.
 use Rattle.std.specs.Prelude.{◌≡◌, ℕ, List, Option, Some, None, Result, Ok, Err}
 use Rattle.{verity_hash.specs.declared.digest.Digest.Digest, verity_io.specs.{Counting.{Side, TheSource, TheDevice}, Reading.HasRead}}
-use Rattle.{verity_plan.specs.Plans.PlanFields, verity_blocks.specs.Levels.{data_blocks, root}}
-use Rattle.verity_blocks.specs.{ClosingOrder.block_index, TreeWriting.{tree_on_device, tree_on_device_after, StopsAt}}
+use Rattle.{verity_plan.specs.Plans.PlanFields, verity_pass.specs.declared.building.BuildFault.TheVariants.{SourceShort, SourceFailed, DeviceFailed}}
+use Rattle.verity_blocks.specs.{Levels.{data_blocks, root}, ClosingOrder.block_index, TreeWriting.{tree_on_device, tree_on_device_after, StopsAt}}
 use Rattle.verity_pass.specs.{Reading.{EndsWithin, FailsWithin, ReadsUpTo}, declared.building.BuildFault.BuildFault}
-use Rattle.verity_pass.specs.declared.building.BuildFault.TheVariants.{SourceShort, SourceFailed, DeviceFailed}
 
 -- the answer, and how much was read
 abbrev pub Builds : PlanFields → Result Digest BuildFault → List ℕ → List ℕ → Type 0

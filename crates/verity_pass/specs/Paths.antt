@@ -1,7 +1,7 @@
 -- A data block checked by its path: the hash blocks above it, joined, level 0 next to the data (Linux kernel, dm-verity
 -- page, "Hash Tree": each digest leads to the block above; fs-verity page, "Merkle tree").
-use Rattle.std.specs.Prelude.{◌≡◌, ◌≢◌, ◌<◌, ◌≤◌, ℕ, zero, suc, ◌+◌, ◌*◌, ◌/◌, ◌%◌, ◌^◌, List, [], length, nat_lt, slice_index_or}
-use Rattle.std.specs.Prelude.{if◌then◌else◌, Result, Ok, Err}
+use Rattle.std.specs.Prelude.{◌≡◌, ◌≢◌, ◌<◌, ◌≤◌, ℕ, zero, suc, ◌+◌, ◌*◌, ◌/◌, ◌%◌, ◌^◌, List, [], length, nat_lt, slice_index_or, if◌then◌else◌}
+use Rattle.std.specs.Prelude.{Result, Ok, Err}
 use Rattle.{std.specs.{Fork.slice_chunk, List.{flat_map, range_with_len}}, verity_blocks.specs.TreeOnDevice.tree_block}
 use Rattle.verity_plan.specs.{Plans.PlanFields, PlanCounts.level_count_of, Settings.{TreeSettingsFields, fan, hash}}
 use Rattle.verity_pass.specs.{Verdicts.digest_in, declared.path.PathFault.{PathFault, TheVariants.{Index, Length, DiffersAt}}}

@@ -1,12 +1,12 @@
 -- Whether the hash blocks that a device holds are the tree's, and which is the first in closing order that is not
 -- (veritysetup(8), `verify`; the order and the parts are this project's own).
-use Rattle.std.specs.Prelude.{◌≡◌, ℕ, ◌+◌, ◌-◌, ◌*◌, Bool, not, min, List, length, take, drop, find, All, nat_lt, Option, Some, None}
-use Rattle.std.specs.Prelude.{Result, Ok, Err, if◌then◌else◌}
-use Rattle.{std.specs.{List.range_with_len, Str.bytes_eq}, verity_blocks.specs.Levels.{root, data_blocks, whole_blocks}}
-use Rattle.verity_blocks.specs.{ClosingOrder.{BlockIndex, closed_after}, TreeOnDevice.{tree_block, stored_block}}
+use Rattle.std.specs.Prelude.{◌≡◌, ℕ, ◌+◌, ◌-◌, ◌*◌, Bool, not, min, List, length, take, drop, find, All, nat_lt, Option, Some, None, Result, Ok, Err}
+use Rattle.std.specs.Prelude.{if◌then◌else◌}
+use Rattle.{std.specs.{List.range_with_len, Str.bytes_eq}, verity_blocks.specs.TreeOnDevice.{tree_block, stored_block}}
+use Rattle.verity_blocks.specs.{Levels.{root, data_blocks, whole_blocks}, ClosingOrder.{BlockIndex, closed_after}}
 use Rattle.verity_plan.specs.{Plans.PlanFields, PlanCounts.count_under, Settings.{TreeSettingsFields, digest_len, fan, slot_width}}
-use Rattle.verity_pass.specs.declared.comparing.CompareFault.{CompareFault, TheVariants.{SourceShort, Differs, RootDiffers}}
-use Rattle.verity_pass.specs.declared.part.Part.{Part, TheVariants.{Missing, Child, Spare}}
+use Rattle.verity_pass.specs.declared.{comparing.CompareFault.{CompareFault, TheVariants.{SourceShort, Differs, RootDiffers}}, part.Part.Part}
+use Rattle.verity_pass.specs.declared.part.Part.TheVariants.{Missing, Child, Spare}
 
 -- the digest in a slot of a hash block
 abbrev pub digest_in : TreeSettingsFields → List ℕ → ℕ → List ℕ

@@ -1,8 +1,8 @@
 -- Quotients rounded up, and the number of levels.
 use Rattle.std.proofs.Common.{◌≡◌, ℕ, zero, suc, ◌+◌, ◌-◌, ◌*◌, ◌^◌, ◌<◌, ◌≤◌, ◌/◌, ◌%◌, true, false, leb, arith, sym, ◌∙◌, inl, inr, ap}
-use Rattle.std.{proofs.lemmas.{Grind.div_ceil_times, Bool.{Decides.{nat_tests, leb_tells}, cases_lt}}, specs.Prelude.nat_le}
+use Rattle.std.{proofs.lemmas.{Grind.div_ceil_times, Bool.{Decides.{nat_tests, leb_tells}, cases_lt}}, specs.{Prelude.nat_le, Int.div_ceil}}
 use Rattle.std.proofs.lemmas.Nat.{div-add-mod', div-mul-add, mod-mul-add, mod_below}
-use Rattle.std.{proofs.Math.Nat.{le_of_mul-le-mul_right, mul-le-mul_left, mul-le-mul_right, mul-pos, pow-zero, pow-suc}, specs.Int.div_ceil}
+use Rattle.std.proofs.Math.Nat.{le_of_mul-le-mul_right, mul-le-mul_left, mul-le-mul_right, mul-pos, pow-zero, pow-suc}
 use Rattle.verity_plan.{specs.{Plans.level_count, PlanLaws.IsLevelCount}, proofs.LeastLemmas.IsLeast-least_from}
 
 -- more of the same number are not less

@@ -1,13 +1,11 @@
 -- Fan-outs and slot widths as powers of two, and the sizes of digests and blocks.
-use Rattle.std.proofs.Common.{sym, ◌∙◌, ◌≡◌, ℕ, zero, suc, ◌+◌, ◌*◌, ◌/◌, ◌^◌, ◌<◌, ◌≤◌, max, true, false, ltb, leb, arith, ap, refl, inl}
-use Rattle.std.proofs.{Common.inr, lemmas.{Bool.{Decides.nat_tests, cases_lt}, Nat.{pow_pos, div-add-mod', mod_below}}}
-use Rattle.std.proofs.Math.Nat.{pow-suc, pow-zero, pow-le-pow_right, mul-le-mul_right, le_trans, div-mul-le_self}
-use Rattle.std.specs.{Prelude.{nat_le, nat_lt}, Int.is_power_of_two}
-use Rattle.verity_hash.specs.{Hashing.digest_len_of, declared.algorithm.Algorithm.Algorithm}
-use Rattle.verity_hash.specs.declared.{algorithm.Algorithm.TheVariants.{Sha256, Sha512, Sha1, Sha224, Sha384}, salting.SaltRule.SaltRule}
-use Rattle.verity_hash.specs.declared.salting.SaltRule.TheVariants.{Before, After, PaddedBefore}
-use Rattle.verity_plan.specs.Settings.{TreeSettingsFields, IsValid, fan, digest_len, is_block_size, least_block, slot_count, least_power}
-use Rattle.verity_plan.{specs.Settings.log2, proofs.{LeastLemmas.{IsLeast, IsLeast-same, IsLeast-least_from}, CountLemmas.lt-pow_self}}
+use Rattle.std.proofs.Common.{sym, ◌∙◌, ◌≡◌, ℕ, zero, suc, ◌+◌, ◌*◌, ◌/◌, ◌^◌, ◌<◌, ◌≤◌, max, true, false, ltb, leb, arith, ap, refl, inl, inr}
+use Rattle.std.{proofs.lemmas.{Bool.{Decides.nat_tests, cases_lt}, Nat.{pow_pos, div-add-mod', mod_below}}, specs.Prelude.{nat_le, nat_lt}}
+use Rattle.std.{proofs.Math.Nat.{pow-suc, pow-zero, pow-le-pow_right, mul-le-mul_right, le_trans, div-mul-le_self}, specs.Int.is_power_of_two}
+use Rattle.verity_hash.specs.{Hashing.digest_len_of, declared.algorithm.Algorithm.{Algorithm, TheVariants.{Sha256, Sha512, Sha1, Sha224, Sha384}}}
+use Rattle.verity_hash.specs.declared.salting.SaltRule.{SaltRule, TheVariants.{Before, After, PaddedBefore}}
+use Rattle.verity_plan.specs.Settings.{TreeSettingsFields, IsValid, fan, digest_len, is_block_size, least_block, slot_count, least_power, log2}
+use Rattle.verity_plan.proofs.{LeastLemmas.{IsLeast, IsLeast-same, IsLeast-least_from}, CountLemmas.lt-pow_self}
 
 -- the logarithm is the least exponent that passes its test
 log2-found : (n : ℕ) → IsLeast (λ m. nat_lt n (2 ^ (m + 1))) 0 (log2 n)

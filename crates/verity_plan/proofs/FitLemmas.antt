@@ -1,12 +1,11 @@
 -- A hash block has room for its slots, and how many and how wide these are.
 use Rattle.std.proofs.Common.{◌≡◌, ℕ, zero, suc, ◌+◌, ◌-◌, ◌*◌, ◌^◌, ◌<◌, ◌≤◌, true, false, leb, arith, ap, refl, sym, subst, ◌∙◌, inl, inr}
 use Rattle.std.proofs.lemmas.{Bool.{cases_lt, Decides.nat_tests}, Nat.{leading_top, ones_cat, pow-add, pow_pos, zero_from_ones}}
-use Rattle.std.{proofs.Math.Nat.{mul-le-mul_left, pow-le-pow_right, pow-suc, pow-zero}, specs.Prelude.{nat_le, count_ones}}
-use Rattle.{std.specs.Int.is_power_of_two, verity_plan.proofs.{CountLemmas.{lt-pow_self, mul_le}, FanLemmas.two_slots}}
+use Rattle.std.{proofs.Math.Nat.{mul-le-mul_left, pow-le-pow_right, pow-suc, pow-zero}, specs.{Prelude.{nat_le, count_ones}, Int.is_power_of_two}}
+use Rattle.verity_plan.{proofs.{CountLemmas.{lt-pow_self, mul_le}, LeastLemmas.{IsLeast, IsLeast-least_from}}, specs.Settings.least_power}
+use Rattle.verity_plan.proofs.FanLemmas.{two_slots, block_power, digest_len_of-pos, exponent-is, slot_count-between, slot_count-fits, hash_most}
+use Rattle.verity_plan.specs.Settings.{TreeSettingsFields, IsValid, fan, digest_len, least_block, slot_width, width_by, least_up_to, slot_count}
 use Rattle.verity_hash.specs.declared.salting.SaltRule.{SaltRule, TheVariants.{Before, After, PaddedBefore}}
-use Rattle.verity_plan.specs.Settings.{TreeSettingsFields, IsValid, fan, digest_len, least_block, slot_width, width_by, least_up_to}
-use Rattle.verity_plan.{specs.Settings.{slot_count, least_power}, proofs.LeastLemmas.{IsLeast, IsLeast-least_from}}
-use Rattle.verity_plan.proofs.FanLemmas.{block_power, digest_len_of-pos, exponent-is, slot_count-between, slot_count-fits, hash_most}
 
 -- a number with one bit set is a power of two
 pub power_of_two-is : (n : ℕ) → 0 < n → is_power_of_two n ≡ true → (k : ℕ) × (n ≡ 2 ^ k)

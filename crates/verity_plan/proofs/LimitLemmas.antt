@@ -1,7 +1,7 @@
 -- The limits of a salt's length and of a block's size, by the salt rule and by dm-verity's hash type.
-use Rattle.{std.proofs.Common.{◌≡◌, ℕ, ◌≤◌, ap, arith}, verity_plan.specs.declared.hash_type.HashType.TheVariants.{Original, Current}}
+use Rattle.std.proofs.Common.{◌≡◌, ℕ, ◌≤◌, ap, arith}
+use Rattle.verity_plan.specs.{declared.hash_type.HashType.{TheVariants.{Original, Current}, HashType}, Settings.{least_block, most_salt, rule_of}}
 use Rattle.verity_hash.specs.declared.salting.SaltRule.{SaltRule, TheVariants.{Before, After, PaddedBefore}}
-use Rattle.verity_plan.specs.{Settings.{least_block, most_salt, rule_of}, declared.hash_type.HashType.HashType}
 
 -- a salt has at most 256 bytes
 pub salt_most : (rule : SaltRule) → most_salt rule ≤ 256

@@ -1,15 +1,14 @@
 -- Plans: their levels and places, the limits that they keep, and which ones are made.
-use Rattle.std.proofs.Common.{◌≡◌, ℕ, cond, zero, suc, ◌+◌, ◌*◌, ◌/◌, ◌^◌, ◌<◌, ◌≤◌, arith, sym, ◌∙◌, ap, refl, inl, inr, subst}
-use Rattle.{std.proofs.lemmas.{Bool.{cases_lt, Decides.nat_tests}, Nat.{div-add-mod', mod_below}}, verity_io.specs.Writing.most_bytes}
+use Rattle.std.{proofs.Common.{◌≡◌, ℕ, cond, zero, suc, ◌+◌, ◌*◌, ◌/◌, ◌^◌, ◌<◌, ◌≤◌, arith, sym, ◌∙◌, ap, refl, inl, inr, subst}, specs.Int.div_ceil}
+use Rattle.std.proofs.{lemmas.{Bool.{cases_lt, Decides.nat_tests}, Nat.{div-add-mod', mod_below}}, Math.Nat.{div-mul-le_self, zero-div}}
 use Rattle.std.proofs.Math.Nat.{pow-suc, pow-le-pow_left, pow-le-pow_right, one-le-pow, mul-le-mul_left, mul-le-mul_right, mul-le-mul}
-use Rattle.{std.proofs.Math.{Nat.{div-mul-le_self, zero-div}, Bool.and-false}, verity_plan.specs.Plans.{level_count, level_size, plan_from}}
-use Rattle.std.specs.{Prelude.{◌==◌, Bool, nat_le, nat_eq, true, false, Ok, Err, Option, Some, None}, Int.div_ceil}
-use Rattle.verity_plan.specs.Plans.{checked_plan, PlanFields, IsPlan, HasBlock, start_byte_of, end_place_of, has_room, block_count}
-use Rattle.verity_plan.specs.PlanCounts.{place_of, level_count_of, store_length_of, most_level_count}
+use Rattle.std.{proofs.Math.Bool.and-false, specs.Prelude.{◌==◌, Bool, nat_le, nat_eq, true, false, Ok, Err, Option, Some, None}}
+use Rattle.verity_io.specs.Writing.{most_bytes}
+use Rattle.verity_plan.specs.Plans.{level_count, level_size, plan_from, checked_plan, PlanFields, IsPlan, HasBlock, start_byte_of, end_place_of}
+use Rattle.verity_plan.specs.{Plans.{has_room, block_count}, PlanCounts.{place_of, level_count_of, store_length_of, most_level_count}}
 use Rattle.verity_plan.specs.{declared.plan_fault.PlanFault.TheVariants.{NoData, TooLarge}, Settings.{IsValid, TreeSettingsFields, fan}}
-use Rattle.verity_plan.proofs.CountLemmas.{div_ceil-div_ceil, IsLevelCount-level_count, le-div_ceil, div_ceil-le, div_ceil-mul}
-use Rattle.verity_plan.proofs.{CountLemmas.div_ceil-pos, FanLemmas.{fan-two, some_data, two_slots, digest_len_of-pos, data_most, hash_most}}
-use Rattle.verity_plan.proofs.PlaceLemmas.{PlacesAreOnce-all}
+use Rattle.verity_plan.proofs.CountLemmas.{div_ceil-div_ceil, IsLevelCount-level_count, le-div_ceil, div_ceil-le, div_ceil-mul, div_ceil-pos}
+use Rattle.verity_plan.proofs.{FanLemmas.{fan-two, some_data, two_slots, digest_len_of-pos, data_most, hash_most}, PlaceLemmas.PlacesAreOnce-all}
 
 -- one level more
 pub count-more : (fan n k count : ℕ) → 0 < fan → count ≡ div_ceil n (fan ^ k) → div_ceil count fan ≡ level_size fan n k

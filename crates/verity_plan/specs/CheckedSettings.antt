@@ -1,10 +1,10 @@
 -- Which parameters make settings, and the first that is past its limits; and the hash type of a number.
 use Rattle.std.specs.Prelude.{ℕ, ◌==◌, Bool, not, List, length, Option, Some, None, Result, Ok, Err, if◌then◌else◌, nat_lt}
 use Rattle.verity_hash.specs.{Hashing.digest_len_of, declared.{algorithm.Algorithm.Algorithm, salting.SaltRule.TheVariants.PaddedBefore}}
-use Rattle.verity_plan.specs.{declared.hash_type.HashType.{HashType, TheVariants.{Original, Current}}, Settings.rule_of}
-use Rattle.verity_plan.specs.declared.setting_fault.SettingFault.{SettingFault, TheVariants.SaltSize}
+use Rattle.verity_plan.specs.declared.{hash_type.HashType.{HashType, TheVariants.{Original, Current}}, setting_fault.SettingFault.SettingFault}
+use Rattle.verity_plan.specs.Settings.{rule_of, TreeSettingsFields, least_verity_block, most_salt, least_block, is_block_size, is_of_fsverity}
+use Rattle.verity_plan.specs.declared.setting_fault.SettingFault.TheVariants.{SaltSize}
 use Rattle.verity_plan.specs.declared.setting_fault.SettingFault.TheVariants.{Algorithm as OtherAlgorithm, DataBlockSize, HashBlockSize}
-use Rattle.verity_plan.specs.Settings.{TreeSettingsFields, least_verity_block, most_salt, least_block, is_block_size, is_of_fsverity}
 
 -- a block size of dm-verity
 abbrev pub is_verity_block_size : ℕ → Bool

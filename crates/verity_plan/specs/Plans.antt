@@ -6,8 +6,8 @@
 -- Levels: Linux kernel, dm-verity page, "Hash Tree". Places, counted in hash blocks: the top level first and level 0
 -- last, without gaps (the same page, "On-disk format": a depth at a time, from the root; cryptsetup's on-disk format
 -- page; Linux kernel, fs-verity page, "FS_IOC_READ_VERITY_METADATA").
-use Rattle.std.specs.Prelude.{◌<◌, ◌≤◌, ℕ, ◌+◌, ◌^◌, nat_le, ◌≡◌, ◌-◌, ◌*◌, ◌/◌, ◌%◌, ◌&&◌, ◌==◌, Bool, true, false, Option, Some, None}
-use Rattle.std.specs.Prelude.{Result, Ok, Err, if◌then◌else◌}
+use Rattle.std.specs.Prelude.{◌<◌, ◌≤◌, ℕ, ◌+◌, ◌^◌, nat_le, ◌≡◌, ◌-◌, ◌*◌, ◌/◌, ◌%◌, ◌&&◌, ◌==◌, Bool, true, false, Option, Some, None, Result, Ok}
+use Rattle.std.specs.Prelude.{Err, if◌then◌else◌}
 use Rattle.{std.specs.{List.{range_with_len, sum_by}, Int.div_ceil}, verity_io.specs.Writing.most_bytes}
 use Rattle.verity_plan.specs.{Settings.{least_up_to, TreeSettingsFields, fan, IsValid}, declared.plan_fault.PlanFault.PlanFault}
 use Rattle.verity_plan.specs.declared.plan_fault.PlanFault.TheVariants.{NoData, TooLarge}

@@ -2,10 +2,9 @@
 -- its fs-verity page; how wide a slot of a hash block is and how many slots a hash block has; and the limits of these
 -- parameters.
 use Rattle.std.specs.Prelude.{◌≡◌, ℕ, zero, suc, ◌+◌, ◌*◌, ◌/◌, ◌^◌, ◌≤◌, ◌&&◌, Bool, true, false, List, length, nat_le, nat_lt}
-use Rattle.{std.specs.Int.is_power_of_two, verity_hash.specs.declared.salting.SaltRule.TheVariants.{Before, After, PaddedBefore}}
-use Rattle.verity_hash.specs.{Hashing.{digest_len_of, with_zeros, salted_hash}, declared.algorithm.Algorithm.Algorithm}
-use Rattle.verity_hash.specs.declared.{algorithm.Algorithm.TheVariants.{Sha256, Sha512}, salting.SaltRule.SaltRule}
-use Rattle.verity_plan.specs.declared.hash_type.HashType.{HashType, TheVariants.{Original, Current}}
+use Rattle.{std.specs.Int.is_power_of_two, verity_plan.specs.declared.hash_type.HashType.{HashType, TheVariants.{Original, Current}}}
+use Rattle.verity_hash.specs.{declared.salting.SaltRule.TheVariants.{Before, After, PaddedBefore}, Hashing.{digest_len_of, with_zeros, salted_hash}}
+use Rattle.verity_hash.specs.declared.{algorithm.Algorithm.{Algorithm, TheVariants.{Sha256, Sha512}}, salting.SaltRule.SaltRule}
 
 -- block sizes are in bytes
 pub record TreeSettingsFields : Type 0 where

@@ -1,17 +1,15 @@
 -- The first block that passes a test, found from the first of each part and of the join.
-use Rattle.std.proofs.Common.{◌≡◌, ℕ, zero, suc, ◌+◌, ◌-◌, ◌*◌, ◌/◌, ◌^◌, ◌<◌, ◌≤◌, min, Bool, true, false, cond, eqb, ltb, leb, List, []}
-use Rattle.std.proofs.Common.{◌∷◌, ◌++◌, length, map, All, IfSome, arith, refl, sym, ◌∙◌, ap, ap₂, inl, inr}
-use Rattle.std.proofs.lemmas.Bool.{cases_Bool, cases_eq, cases_lt, cond_both, eq-eqb, ne_eqb, le-leb, lt-leb, lt-ltb, le-ltb}
-use Rattle.std.proofs.{lemmas.{Bool.Decides.nat_tests, List.Folds.find-append, Nat.{div-add-mod', mod_below}}, Math.Nat.one-le-pow}
+use Rattle.std.proofs.Common.{◌≡◌, ℕ, zero, suc, ◌+◌, ◌-◌, ◌*◌, ◌/◌, ◌^◌, ◌<◌, ◌≤◌, min, Bool, true, false, cond, eqb, ltb, leb, List, [], ◌∷◌, ◌++◌}
+use Rattle.std.proofs.{Common.{length, map, All, IfSome, arith, refl, sym, ◌∙◌, ap, ap₂, inl, inr}, lemmas.Bool.Decides.nat_tests}
+use Rattle.std.proofs.{lemmas.Bool.{cases_Bool, cases_eq, cases_lt, cond_both, eq-eqb, ne_eqb, le-leb, lt-leb, lt-ltb, le-ltb}, Math.Nat.one-le-pow}
+use Rattle.std.{proofs.lemmas.{List.Folds.find-append, Nat.{div-add-mod', mod_below}}, specs.{List.{filter, range_with_len}, Option.option_or}}
 use Rattle.std.proofs.lemmas.List.Elements.{All-append, All-cons, All-filter, All-head, All-nil, All-tail, All-weaker, filter-append}
-use Rattle.std.specs.{List.{filter, range_with_len}, Option.option_or, Prelude.{◌&&◌, Option, Some, None, find, nat_le, nat_lt}}
-use Rattle.verity_plan.specs.{Plans.{PlanFields, level_count}, PlanCounts.count_under, Settings.fan}
-use Rattle.verity_plan.proofs.{CountLemmas.{le-div_ceil, mul_le}, FanLemmas.fan-some, IndexLemmas.quotient-below}
-use Rattle.verity_blocks.specs.ClosingOrder.{BlockIndex, block_index, closed_after, closes, closing_with, closing_moment}
-use Rattle.verity_blocks.{specs.Levels.data_blocks, proofs.{Levels.DataBlocks.whole_blocks-all, Order.ClosesOnce.closes-time}}
-use Rattle.{verity_blocks.proofs.Order.ClosingInTurn.passing, verity_builders.specs.Parts.{closed_in_join, closed_in_part}}
+use Rattle.{std.specs.Prelude.{◌&&◌, Option, Some, None, find, nat_le, nat_lt}, verity_plan.proofs.{FanLemmas.fan-some, IndexLemmas.quotient-below}}
+use Rattle.verity_plan.{specs.{Plans.{PlanFields, level_count}, PlanCounts.count_under, Settings.fan}, proofs.CountLemmas.{le-div_ceil, mul_le}}
+use Rattle.verity_blocks.specs.{ClosingOrder.{BlockIndex, block_index, closed_after, closes, closing_with, closing_moment}, Levels.data_blocks}
+use Rattle.verity_blocks.proofs.{Levels.DataBlocks.whole_blocks-all, Order.{ClosesOnce.closes-time, ClosingInTurn.passing}}
+use Rattle.{verity_builders.specs.Parts.{closed_in_join, closed_in_part}, verity_pass.specs.Verdicts.{differs, verdict, verdict_by}}
 use Rattle.verity_tree.specs.FirstDifferences.{closes_before, earlier, earliest, first_of_each}
-use Rattle.verity_pass.specs.Verdicts.{differs, verdict, verdict_by}
 
 -- what holds of each block of a list holds of the one that is found
 find-if : (P : BlockIndex → Type 0) (test : BlockIndex → Bool) (blocks : List BlockIndex) → All P blocks

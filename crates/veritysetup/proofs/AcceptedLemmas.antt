@@ -1,19 +1,17 @@
 -- What a formatted device says is read back, and verify accepts it.
-use Rattle.std.proofs.Common.{◌≡◌, ◌≢◌, ℕ, ◌*◌, Bool, true, List, length, take, drop, map, Some, None, Result, Ok, Err, cond, arith, sym}
-use Rattle.std.proofs.{Common.{subst, ◌∙◌, ap, refl, inl, inr}, lemmas.{Bool.Decides.nat_tests, List.{length-take, length-take-le}}}
-use Rattle.std.specs.{List.range_with_len, Prelude.{◌==◌, ◌⊎◌, IfErr, IsSome, is_some}, Result.result_ok}
+use Rattle.std.proofs.Common.{◌≡◌, ◌≢◌, ℕ, ◌*◌, Bool, true, List, length, take, drop, map, Some, None, Result, Ok, Err, cond, arith, sym, subst, ◌∙◌}
+use Rattle.std.{proofs.{Common.{ap, refl, inl, inr}, lemmas.{Bool.Decides.nat_tests, List.{length-take, length-take-le}}}, specs.List.range_with_len}
 use Rattle.hex.{specs.Hex.{decode_of, encode_lower, lower_digits}, proofs.HexLemmas.{decode_of-encode_lower, length-encode_with}}
 use Rattle.verity_hash.{specs.Hashing.digest_len_of, proofs.{DigestBytes.bytes-salted_hash, HashLemmas.length-salted_hash}}
-use Rattle.{verity_plan.specs.{Plans.{PlanFields, plan_at}, Settings.{TreeSettingsFields, hash}}, verity_pass.proofs.HeldTree.holds-right}
-use Rattle.verity_format.{specs.Superblocks.IsSuperblock, proofs.TextLemmas.text_says}
+use Rattle.{verity_plan.specs.{Plans.{PlanFields, plan_at}, Settings.{TreeSettingsFields, hash}}, std.specs.Result.result_ok}
+use Rattle.verity_pass.{proofs.HeldTree.holds-right, specs.{Comparing.Judges, Verdicts.verdict, declared.comparing.CompareFault.CompareFault}}
+use Rattle.{verity_format.{specs.Superblocks.IsSuperblock, proofs.TextLemmas.text_says}, std.specs.Prelude.{◌==◌, ◌⊎◌, IfErr, IsSome, is_some}}
 use Rattle.verity_blocks.specs.{Levels.{block_at, cut, data_blocks, root}, TreeOnDevice.{HoldsTree, tree_block}}
-use Rattle.veritysetup.specs.{Options.Settings.{SettingsFields, read_root}, Runs.Formatted.{IsFormattedDevice, root_above}}
-use Rattle.veritysetup.specs.Runs.{GivenBack.IsGivenBack, HashDevice.{superblock_at, superblock_for}}
-use Rattle.veritysetup.specs.Runs.{Verified.{Describes, IsVerified, Trusts}, Verify.{Compares, Verifies}}
+use Rattle.veritysetup.specs.{Options.Settings.{SettingsFields, read_root}, Runs.{Formatted.{IsFormattedDevice, root_above}, GivenBack.IsGivenBack}}
+use Rattle.veritysetup.specs.Runs.{HashDevice.{superblock_at, superblock_for}, Verified.{Describes, IsVerified, Trusts}, Verify.{Compares, Verifies}}
 use Rattle.veritysetup.specs.declared.{runs.verify_input.VerifyInput.{VerifyInput, TheVariants.{Stored, Given}}, fault.Fault.Fault}
 use Rattle.veritysetup.specs.Faults.{compare_status, result_status, side_of, status_of, status_refused, status_verification_failed}
 use Rattle.veritysetup.proofs.{SettingsLemmas.{AreValid, plan-made, superblock-valid}, InputLemmas.{trusted-one, trusted-unrefused}}
-use Rattle.verity_pass.specs.{Comparing.Judges, Verdicts.verdict, declared.comparing.CompareFault.CompareFault}
 use Rattle.verity_pass.specs.declared.comparing.CompareFault.TheVariants as compare
 use Rattle.veritysetup.specs.declared.fault.Fault.TheVariants as fault
 

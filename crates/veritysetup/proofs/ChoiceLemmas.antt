@@ -1,14 +1,12 @@
 -- What options choose, step by step.
-use Rattle.std.proofs.Common.{◌≡◌, ℕ, ◌/◌, not, List, Option, Some, None, Result, Ok, Err, ◌∙◌, ap, refl}
-use Rattle.{std.specs.Prelude.{ok_or, unwrap_or}, command_line.specs.Options.{algorithm_or_default, default_block_size, ◌>>=◌}}
-use Rattle.verity_hash.specs.declared.algorithm.Algorithm.{Algorithm}
+use Rattle.std.{proofs.Common.{◌≡◌, ℕ, ◌/◌, not, List, Option, Some, None, Result, Ok, Err, ◌∙◌, ap, refl}, specs.Prelude.{ok_or, unwrap_or}}
+use Rattle.{command_line.specs.Options.{algorithm_or_default, default_block_size, ◌>>=◌}, verity_hash.specs.declared.algorithm.Algorithm.Algorithm}
 use Rattle.verity_plan.specs.{CheckedSettings.type_of_number, Plans.{PlanFields, multiple_of, offset_unit, plan_at}}
 use Rattle.verity_plan.specs.{Settings.{TreeSettingsFields, rule_of}, declared.hash_type.HashType.HashType}
-use Rattle.veritysetup.specs.Options.Choices.{accepted_plan, settings_of, tree_of}
+use Rattle.veritysetup.specs.Options.{Choices.{accepted_plan, settings_of, tree_of}, OptionTexts.{superblock_uuid, uuid_or_random}}
 use Rattle.veritysetup.specs.Options.OptionTexts.{block_size_of, number_if_given, number_option, root_if_given, OptionTexts, salt_or_random}
-use Rattle.veritysetup.specs.Options.{OptionTexts.{superblock_uuid, uuid_or_random}, Settings.SettingsFields}
-use Rattle.veritysetup.specs.declared.options.option_fault.OptionName.TheVariants.{Format, DataBlockSize, HashBlockSize, DataBlocks}
-use Rattle.veritysetup.specs.declared.options.option_fault.{OptionName.TheVariants.HashOffset, OptionFault.OptionFault}
+use Rattle.veritysetup.specs.{Options.Settings.SettingsFields, declared.options.option_fault.OptionFault.OptionFault}
+use Rattle.veritysetup.specs.declared.options.option_fault.OptionName.TheVariants.{Format, DataBlockSize, HashBlockSize, DataBlocks, HashOffset}
 use Rattle.veritysetup.specs.declared.options.option_fault.OptionFault.TheVariants as option
 
 abbrev pub Chosen : Type 0 → Type 0

@@ -1,13 +1,11 @@
 -- A formatted device is the one that writing each hash block and then the superblock leaves.
-use Rattle.std.proofs.Common.{◌≡◌, ◌⊎◌, ℕ, ◌+◌, ◌-◌, ◌*◌, ◌<◌, ◌≤◌, Bool, true, false, ◌&&◌, List, length, take, drop, get_or, arith, sym}
-use Rattle.std.proofs.{Common.{subst, ◌∙◌, ap, refl, inl, inr}, lemmas.Bool.{and_parts, cases_lt, or_cases, or_parts, Decides.nat_tests}}
-use Rattle.{std.proofs.lemmas.List.{ext_get_or, get_or-drop, get_or-take}, verity_io.specs.Writing.put}
+use Rattle.std.proofs.Common.{◌≡◌, ◌⊎◌, ℕ, ◌+◌, ◌-◌, ◌*◌, ◌<◌, ◌≤◌, Bool, true, false, ◌&&◌, List, length, take, drop, get_or, arith, sym, subst, ◌∙◌}
+use Rattle.std.proofs.{Common.{ap, refl, inl, inr}, lemmas.Bool.{and_parts, cases_lt, or_cases, or_parts, Decides.nat_tests}}
+use Rattle.{std.proofs.lemmas.List.{ext_get_or, get_or-drop, get_or-take}, verity_io.specs.Writing.put, verity_blocks.specs.Levels.data_blocks}
 use Rattle.verity_plan.{specs.Plans.{HasBlock, end_place_of, start_byte_of}, proofs.PlanLemmas.some_hash}
-use Rattle.verity_format.{specs.Superblocks.superblock_bytes, proofs.TextLemmas.length-superblock_bytes}
-use Rattle.verity_blocks.specs.{Levels.data_blocks, TreeOnDevice.HoldsTree, TreeWriting.tree_on_device}
-use Rattle.verity_blocks.proofs.Order.PlacedBlocks.{length-put, put-byte, put-here, range-within}
-use Rattle.verity_pass.proofs.BesideTree.{block-within, tree-byte, tree-bytes, tree-no_longer, tree-no_shorter}
-use Rattle.verity_pass.proofs.PutTree.{put-before, put-holds}
+use Rattle.{verity_format.{specs.Superblocks.superblock_bytes, proofs.TextLemmas.length-superblock_bytes}, verity_blocks.specs.TreeOnDevice.HoldsTree}
+use Rattle.verity_blocks.{proofs.Order.PlacedBlocks.{length-put, put-byte, put-here, range-within}, specs.TreeWriting.tree_on_device}
+use Rattle.verity_pass.proofs.{BesideTree.{block-within, tree-byte, tree-bytes, tree-no_longer, tree-no_shorter}, PutTree.{put-before, put-holds}}
 use Rattle.veritysetup.specs.{Options.Settings.SettingsFields, Runs.Formatted.{IsFormattedDevice, is_within, is_written, root_above}}
 use Rattle.veritysetup.specs.Runs.{HashDevice.{superblock_at, superblock_for}, Format.formatted_device}
 use Rattle.veritysetup.proofs.SettingsLemmas.{AreValid, superblock-before, superblock-valid}

@@ -3,8 +3,8 @@ use Rattle.std.proofs.Common.{◌≡◌, ℕ, true, List, Some, None, sym, subst
 use Rattle.verity_format.specs.{CheckedSuperblocks.superblock_fault, Superblocks.{IsSuperblock, SuperblockFields}}
 use Rattle.verity_format.{specs.declared.super_fault.SuperFault.SuperFault, proofs.SuperblockLemmas.{one-superblock, says-fault_none}}
 use Rattle.verity_plan.{specs.Plans.{IsPlan, PlanFields, base_of, plan_at}, proofs.PlanLemmas.IsPlan-plan_from}
-use Rattle.veritysetup.specs.{Faults.side_of, Options.Settings.read_root, Runs.{GivenBack.IsPlanIfGiven, HashDevice.superblock_at}}
-use Rattle.veritysetup.specs.{Runs.{SameVerdicts.HaveOneSuperblock, Verified.Trusts, Verify.Refuses}, declared.fault.Fault.Fault}
+use Rattle.veritysetup.specs.{Faults.side_of, Options.Settings.read_root, Runs.{GivenBack.IsPlanIfGiven, HashDevice.superblock_at, Verified.Trusts}}
+use Rattle.veritysetup.specs.{Runs.{SameVerdicts.HaveOneSuperblock, Verify.Refuses}, declared.fault.Fault.Fault}
 use Rattle.veritysetup.specs.declared.runs.verify_input.VerifyInput.{VerifyInput, TheVariants.{Stored, Given}}
 use Rattle.veritysetup.specs.declared.fault.Fault.TheVariants as fault
 use Rattle.veritysetup.specs.declared.options.option_fault.OptionFault.TheVariants as option

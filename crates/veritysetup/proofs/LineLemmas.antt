@@ -1,8 +1,7 @@
 -- The texts of a line's options are those that its settings are chosen by.
-use Rattle.std.{proofs.Common.{◌≡◌, Bool, List, Option, None, Some, map, refl, ℕ}, specs.Borrow.Bor}
-use Rattle.std.specs.Prelude.{is_some, option_copied, option_map, string_bytes}
-use Rattle.veritysetup.specs.{Options.OptionTexts.option_texts, Program.Steps.line_texts, Words.RawWords.root_word}
-use Rattle.veritysetup.specs.declared.{options.raw_options.RawOptions.RawOptions, words.line.Line.Line}
+use Rattle.std.{specs.Prelude.{is_some, option_copied, option_map, string_bytes}, proofs.Common.{◌≡◌, Bool, List, Option, None, Some, map, refl, ℕ}}
+use Rattle.veritysetup.specs.{Options.OptionTexts.option_texts, Program.Steps.line_texts, Words.RawWords.root_word, declared.words.line.Line.Line}
+use Rattle.{veritysetup.specs.declared.options.raw_options.RawOptions.RawOptions, std.specs.Borrow.Bor}
 
 pub texts-same : (raw : RawOptions) (line : Line) (same_file : Bool)
     → option_copied raw.hash ≡ option_map string_bytes line.hash

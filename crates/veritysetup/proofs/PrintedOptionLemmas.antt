@@ -1,30 +1,26 @@
 -- What a report prints, given again as options, gives the same settings.
-use Rattle.std.proofs.Common.{◌≡◌, ℕ, ◌+◌, ◌*◌, ◌/◌, ◌%◌, ◌^◌, ◌<◌, ◌≤◌, ◌&&◌, Bool, true, false, not, cond, List, [], ◌∷◌, length, take}
-use Rattle.std.proofs.Common.{drop, Option, Some, None, Ok, Err, nat_le, nat_lt, arith, ◌⊎◌, sym, subst, ◌∙◌, ap, refl, inl, inr, lt-ltb}
-use Rattle.{std.proofs.lemmas.Bool.{and_parts, false_from_ne_true, le-leb, leb-true, Decides.nat_tests}, verity_io.specs.Writing.most_bytes}
-use Rattle.std.proofs.lemmas.{Fmt.{decimal_nonempty, digits_decimal, digits_value-decimal}, List.get_or_default, Slice.Eq.bytes_eq-Decides}
-use Rattle.std.{proofs.Math.Nat.mul_comm, specs.{Fmt.decimal, Int.is_power_of_two, Prelude.{◌==◌, codes, ok_or, option_map, unwrap_or}}}
-use Rattle.{std.specs.{Result.result_ok, Str.bytes_eq}, uuid.proofs.RoundTrips.parses_hyphenated}
+use Rattle.std.proofs.Common.{◌≡◌, ℕ, ◌+◌, ◌*◌, ◌/◌, ◌%◌, ◌^◌, ◌<◌, ◌≤◌, ◌&&◌, Bool, true, false, not, cond, List, [], ◌∷◌, length, take, drop}
+use Rattle.std.proofs.Common.{Option, Some, None, Ok, Err, nat_le, nat_lt, arith, ◌⊎◌, sym, subst, ◌∙◌, ap, refl, inl, inr, lt-ltb}
+use Rattle.std.proofs.{lemmas.{Bool.{and_parts, false_from_ne_true, le-leb, leb-true, Decides.nat_tests}, List.get_or_default}, Math.Nat.mul_comm}
+use Rattle.std.{proofs.lemmas.{Fmt.{decimal_nonempty, digits_decimal, digits_value-decimal}, Slice.Eq.bytes_eq-Decides}, specs.Fmt.decimal}
+use Rattle.std.specs.{Int.is_power_of_two, Prelude.{◌==◌, codes, ok_or, option_map, unwrap_or}, Result.result_ok, Str.bytes_eq}
+use Rattle.{verity_io.specs.Writing.most_bytes, uuid.proofs.RoundTrips.parses_hyphenated, verity_format.proofs.NameLemmas.{named-back, numbered-back}}
 use Rattle.hex.{specs.Hex.{IsBytes, decode_of, encode_lower, lower_digits}, proofs.HexLemmas.{decode_of-encode_lower, length-encode_with}}
 use Rattle.command_line.{specs.Options.{algorithm_or_default, default_block_size, number, number_of}, proofs.Numerals.numerals}
-use Rattle.verity_format.proofs.NameLemmas.{named-back, numbered-back}
 use Rattle.verity_hash.specs.declared.{algorithm.Algorithm.Algorithm, salting.SaltRule.SaltRule}
 use Rattle.verity_plan.specs.{CheckedSettings.type_of_number, Plans.{IsPlan, PlanFields, base_of, multiple_of, offset_unit, plan_at}}
-use Rattle.verity_plan.specs.Settings.{TreeSettingsFields, digest_len, is_block_size, least_block, rule_of, type_number}
-use Rattle.verity_plan.{specs.declared.hash_type.HashType.{HashType, TheVariants.{Original, Current}}, proofs.CountLemmas.mul_le}
-use Rattle.verity_plan.proofs.{FanLemmas.some_data, LimitLemmas.{least-verity, salt-verity}}
-use Rattle.veritysetup.specs.Options.Choices.{accepted_plan, settings_of, tree_of}
-use Rattle.veritysetup.specs.Options.OptionTexts.{block_size_of, number_if_given, number_option, root_if_given, OptionTexts, no_uuid}
-use Rattle.veritysetup.specs.Options.{OptionTexts.{salt_or_random, superblock_uuid, uuid_or_random}, Uuids.random_uuid}
-use Rattle.veritysetup.specs.Options.PrintedOptions.{printed_options, verify_options, without_root}
-use Rattle.veritysetup.specs.{Options.Settings.{PartsAgree, SettingsFields, read_root}, Runs.HashDevice.superblock_for}
-use Rattle.veritysetup.specs.{Texts.Reports.{salt_text, uuid_text}, declared.options.option_fault.OptionName.OptionName}
-use Rattle.veritysetup.specs.declared.options.option_fault.OptionName.TheVariants.{Format, DataBlockSize, HashBlockSize, DataBlocks}
-use Rattle.veritysetup.specs.declared.options.option_fault.OptionName.TheVariants.{HashOffset}
-use Rattle.veritysetup.proofs.ChoiceLemmas.{Chosen, chosen, step, unstep, one-chosen, given-chosen, tree_with, tree_by_hash, tree_by_data}
-use Rattle.veritysetup.proofs.ChoiceLemmas.{with_root, with_plan, with_offset, with_uuid, with_tree, with_type, with_algorithm, with_bytes}
-use Rattle.veritysetup.proofs.ChoiceLemmas.{with_blocks, with_hash_block_size, with_data_block_size, with_format, all-steps}
-use Rattle.veritysetup.proofs.{ChosenPlanLemmas.{accepted_plan-is, plan_is}, SettingsLemmas.{AreValid, plan-made}}
+use Rattle.verity_plan.{specs.Settings.{TreeSettingsFields, digest_len, is_block_size, least_block, rule_of, type_number}, proofs.CountLemmas.mul_le}
+use Rattle.verity_plan.{specs.declared.hash_type.HashType.{HashType, TheVariants.{Original, Current}}, proofs.FanLemmas.some_data}
+use Rattle.{verity_plan.proofs.LimitLemmas.{least-verity, salt-verity}, veritysetup.proofs.SettingsLemmas.{AreValid, plan-made}}
+use Rattle.veritysetup.specs.Options.{Choices.{accepted_plan, settings_of, tree_of}, OptionTexts.{superblock_uuid, uuid_or_random}, Uuids.random_uuid}
+use Rattle.veritysetup.specs.Options.OptionTexts.{block_size_of, number_if_given, number_option, root_if_given, OptionTexts, no_uuid, salt_or_random}
+use Rattle.veritysetup.specs.{Options.PrintedOptions.{printed_options, verify_options, without_root}, Runs.HashDevice.superblock_for}
+use Rattle.veritysetup.specs.{Options.Settings.{PartsAgree, SettingsFields, read_root}, Texts.Reports.{salt_text, uuid_text}}
+use Rattle.veritysetup.{specs.declared.options.option_fault.OptionName.OptionName, proofs.ChosenPlanLemmas.{accepted_plan-is, plan_is}}
+use Rattle.veritysetup.specs.declared.options.option_fault.OptionName.TheVariants.{Format, DataBlockSize, HashBlockSize, DataBlocks, HashOffset}
+use Rattle.veritysetup.proofs.ChoiceLemmas.{Chosen, chosen, step, unstep, one-chosen, given-chosen, tree_with, tree_by_hash, tree_by_data, with_root}
+use Rattle.veritysetup.proofs.ChoiceLemmas.{with_plan, with_offset, with_uuid, with_tree, with_type, with_algorithm, with_bytes, with_blocks}
+use Rattle.veritysetup.proofs.ChoiceLemmas.{with_hash_block_size, with_data_block_size, with_format, all-steps}
 use Rattle.veritysetup.specs.declared.options.option_fault.OptionFault.TheVariants as option
 
 -- ---- numbers

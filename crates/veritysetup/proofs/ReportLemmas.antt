@@ -1,7 +1,6 @@
 -- What a writer holds after format printed its report.
-use Rattle.std.{proofs.Common.{ℕ, List, Option, Result, Ok, Err, [], take}, specs.Io.KnownBytes.Keeps}
-use Rattle.command_line.{proofs.Prefixes.appends_kept, specs.{Writing.WritesText, declared.writing.print_fault.PrintFault.PrintFault}}
-use Rattle.command_line.specs.declared.writing.print_fault.PrintFault.TheVariants.{Memory, Output}
+use Rattle.{std.{proofs.Common.{ℕ, List, Option, Result, Ok, Err, [], take}, specs.Io.KnownBytes.Keeps}, command_line.proofs.Prefixes.appends_kept}
+use Rattle.command_line.specs.{declared.writing.print_fault.PrintFault.{TheVariants.{Memory, Output}, PrintFault}, Writing.WritesText}
 use Rattle.veritysetup.specs.{Runs.Format.PrintsReport, Texts.TextChanges.Grows, declared.fault.Fault.Fault}
 use Rattle.veritysetup.specs.declared.fault.Fault.TheVariants as fault
 

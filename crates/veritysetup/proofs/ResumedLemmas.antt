@@ -1,20 +1,18 @@
 -- A device on which format has begun: what isn't written is as before, and without the superblock there is none.
-use Rattle.std.proofs.Common.{◌≡◌, ◌≢◌, ◌⊎◌, ℕ, ◌+◌, ◌-◌, ◌<◌, ◌≤◌, true, false, cond, List, [], ◌∷◌, ◌++◌, length, take, drop, get_or}
-use Rattle.std.proofs.{Common.{Result, Ok, Err, arith, sym, subst, ◌∙◌, ap, refl, inl, inr}, lemmas.Bool.cases_lt}
-use Rattle.std.{proofs.lemmas.List.{get_or-drop, get_or-take, Sums.sum_by-append}, specs.Prelude.{◌==◌, ◌&&◌}}
-use Rattle.{verity_format.specs.Superblocks.{IsSuperblock, SuperblockFields, signature}, verity_io.specs.Writing.{Spoiled, put}}
+use Rattle.std.proofs.Common.{◌≡◌, ◌≢◌, ◌⊎◌, ℕ, ◌+◌, ◌-◌, ◌<◌, ◌≤◌, true, false, cond, List, [], ◌∷◌, ◌++◌, length, take, drop, get_or, Result, Ok}
+use Rattle.std.proofs.{Common.{Err, arith, sym, subst, ◌∙◌, ap, refl, inl, inr}, lemmas.{Bool.cases_lt, List.{get_or-drop, get_or-take}}}
+use Rattle.{std.{proofs.lemmas.List.Sums.sum_by-append, specs.Prelude.{◌==◌, ◌&&◌}}, verity_io.specs.Writing.{Spoiled, put}}
+use Rattle.{verity_format.specs.Superblocks.{IsSuperblock, SuperblockFields, signature}, verity_pass.proofs.BesideTree.block-within}
 use Rattle.verity_plan.{specs.{Plans.{HasBlock, IsTreeBlock, start_byte, start_byte_of}, Settings.fan}, proofs.FanLemmas.fan-some}
-use Rattle.{verity_plan.proofs.{FitLemmas.fan-fits, PlanLemmas.some_hash}, verity_pass.proofs.BesideTree.block-within}
-use Rattle.verity_blocks.specs.{ClosingOrder.{BlockIndex, ComesNext, block_index, closed_after, times}, Levels.data_blocks}
-use Rattle.verity_blocks.specs.{TreeOnDevice.tree_block, TreeWriting.{device_with, tree_on_device}}
-use Rattle.verity_blocks.proofs.Order.{TimesCounted.{times-first, times-more}, ClosesOnce.closed_time}
-use Rattle.verity_blocks.proofs.{Order.PlacedBlocks.{length-put, length-tree_block, put-byte}, Levels.CutBlocks.length-cut}
-use Rattle.veritysetup.specs.{Faults.{result_status, status_refused}, Options.Settings.SettingsFields}
-use Rattle.veritysetup.specs.Runs.{Format.{Formatted, Reads, Writes}, Formatted.{IsFormattedDevice, is_written}, HashDevice.superblock_at}
-use Rattle.veritysetup.specs.{Runs.{Resumed.{IsBeforeSuperblock, IsStoredAt, KeepsOthers}, Verify.Verifies}, declared.fault.Fault.Fault}
-use Rattle.veritysetup.specs.declared.runs.verify_input.VerifyInput.{VerifyInput, TheVariants.{Stored, Given}}
+use Rattle.verity_plan.proofs.{FitLemmas.fan-fits, PlanLemmas.some_hash}
+use Rattle.verity_blocks.specs.{ClosingOrder.{BlockIndex, ComesNext, block_index, closed_after, times}, Levels.data_blocks, TreeOnDevice.tree_block}
+use Rattle.verity_blocks.{specs.TreeWriting.{device_with, tree_on_device}, proofs.Order.TimesCounted.{times-first, times-more}}
+use Rattle.verity_blocks.proofs.{Order.{ClosesOnce.closed_time, PlacedBlocks.{length-put, length-tree_block, put-byte}}, Levels.CutBlocks.length-cut}
+use Rattle.veritysetup.specs.{Faults.{result_status, status_refused}, Options.Settings.SettingsFields, Runs.Format.{Formatted, Reads, Writes}}
+use Rattle.veritysetup.specs.{Runs.{Formatted.{IsFormattedDevice, is_written}, HashDevice.superblock_at, Verify.Verifies}, declared.fault.Fault.Fault}
+use Rattle.veritysetup.specs.{Runs.Resumed.{IsBeforeSuperblock, IsStoredAt, KeepsOthers}, declared.runs.verify_input.VerifyInput.VerifyInput}
+use Rattle.veritysetup.{specs.declared.runs.verify_input.VerifyInput.TheVariants.{Stored, Given}, proofs.SettingsLemmas.{AreValid, superblock-before}}
 use Rattle.veritysetup.proofs.FormattedLemmas.{beside-superblock, beside-tree, formatted-no_longer, formatted-no_shorter, formatted-others}
-use Rattle.veritysetup.proofs.SettingsLemmas.{AreValid, superblock-before}
 use Rattle.verity_pass.specs.declared.building.BuildFault.TheVariants as build
 use Rattle.veritysetup.specs.declared.fault.Fault.TheVariants as fault
 use Rattle.veritysetup.specs.declared.options.option_fault.OptionFault.TheVariants as option

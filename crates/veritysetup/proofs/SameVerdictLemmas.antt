@@ -1,19 +1,16 @@
 -- Devices and sources that are alike in what a verdict goes by have one verdict.
-use Rattle.std.proofs.Common.{◌≡◌, ℕ, ◌+◌, ◌-◌, ◌*◌, ◌<◌, ◌≤◌, ◌&&◌, not, cond, min, List, [], ◌∷◌, ◌++◌, length, take, drop, Option, Some}
-use Rattle.std.proofs.{Common.{None, Result, Ok, Err, arith, sym, subst, ◌∙◌, ap, refl, inl, inr}, lemmas.Bool.{cases_Bool, cases_lt}}
-use Rattle.std.proofs.lemmas.{Bool.Decides.nat_tests, List.{drop-drop, drop-take, length-take, take-take}}
-use Rattle.std.{proofs.lemmas.List.{Elements.{All-cons, All-head, All-nil, All-tail}, Sums.sum_by-append}, specs.Result.result_err}
-use Rattle.{std.specs.{Prelude.{◌==◌, IfErr, find, nat_lt}, Str.bytes_eq}, verity_io.specs.Reading.HasRead}
-use Rattle.verity_plan.specs.{Plans.{HasBlock, IsPlan, PlanFields, end_place_of, start_byte_of}, Settings.fan}
-use Rattle.verity_plan.proofs.{FanLemmas.{fan-some, some_data}, IndexLemmas.quotient-below}
+use Rattle.std.proofs.Common.{◌≡◌, ℕ, ◌+◌, ◌-◌, ◌*◌, ◌<◌, ◌≤◌, ◌&&◌, not, cond, min, List, [], ◌∷◌, ◌++◌, length, take, drop, Option, Some, None}
+use Rattle.std.proofs.{Common.{Result, Ok, Err, arith, sym, subst, ◌∙◌, ap, refl, inl, inr}, lemmas.Bool.{cases_Bool, cases_lt, Decides.nat_tests}}
+use Rattle.std.proofs.lemmas.List.{drop-drop, drop-take, length-take, take-take, Elements.{All-cons, All-head, All-nil, All-tail}, Sums.sum_by-append}
+use Rattle.{std.specs.{Result.result_err, Prelude.{◌==◌, IfErr, find, nat_lt}, Str.bytes_eq}, verity_io.specs.Reading.HasRead}
+use Rattle.verity_plan.{specs.{Plans.{HasBlock, IsPlan, PlanFields, end_place_of, start_byte_of}, Settings.fan}, proofs.IndexLemmas.quotient-below}
+use Rattle.{verity_plan.proofs.FanLemmas.{fan-some, some_data}, verity_blocks.proofs.Order.ClosesOnce.closed_time, veritysetup.specs.Faults.side_of}
 use Rattle.verity_blocks.specs.{ClosingOrder.{BlockIndex, ComesNext, closed_after, times}, Levels.{data_blocks, root, whole_blocks}}
 use Rattle.verity_blocks.{specs.TreeOnDevice.{stored_block, tree_block}, proofs.Order.TimesCounted.{times-first, times-more}}
-use Rattle.{verity_blocks.proofs.Order.ClosesOnce.closed_time, verity_pass.specs.{Comparing.{CompareReads, Judges}, Reading.bytes_of}}
-use Rattle.verity_pass.specs.Verdicts.{HoldsBlockAt, NoneDiffers, difference, differs, part_of, verdict, verdict_by}
-use Rattle.verity_pass.{specs.declared.comparing.CompareFault.CompareFault, proofs.BesideTree.block-within}
-use Rattle.veritysetup.specs.{Faults.side_of, Runs.{GivenBack.IsPlanIfGiven, SameVerdicts.{AreAlike, IsJudged, hash_area}}}
-use Rattle.veritysetup.specs.{Runs.Verify.{Compares, Refuses, Verifies}, declared.fault.Fault.Fault}
-use Rattle.veritysetup.{specs.declared.runs.verify_input.VerifyInput.VerifyInput, proofs.AcceptedLemmas.data_blocks-same}
+use Rattle.verity_pass.specs.{Comparing.{CompareReads, Judges}, Reading.bytes_of, declared.comparing.CompareFault.CompareFault}
+use Rattle.verity_pass.{specs.Verdicts.{HoldsBlockAt, NoneDiffers, difference, differs, part_of, verdict, verdict_by}, proofs.BesideTree.block-within}
+use Rattle.veritysetup.specs.{Runs.Verify.{Compares, Refuses, Verifies}, declared.{fault.Fault.Fault, runs.verify_input.VerifyInput.VerifyInput}}
+use Rattle.veritysetup.{proofs.AcceptedLemmas.data_blocks-same, specs.Runs.{GivenBack.IsPlanIfGiven, SameVerdicts.{AreAlike, IsJudged, hash_area}}}
 use Rattle.veritysetup.proofs.InputLemmas.{refused-one, refused-there, trusted-one, trusted-planned, trusted-there, trusted-unrefused}
 use Rattle.verity_pass.specs.declared.comparing.CompareFault.TheVariants as compare
 use Rattle.veritysetup.specs.declared.fault.Fault.TheVariants as fault

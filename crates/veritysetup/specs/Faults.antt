@@ -1,12 +1,11 @@
 -- How a run ends: done, or at its first fault. The status and the message of each fault, and, if a call failed, whose
 -- call it was (veritysetup(8); statuses and messages are this project's own).
 use Rattle.std.specs.Prelude.{◌≤◌, ℕ, List, Option, Some, None, Result, Ok, Err, IfSome}
-use Rattle.{std.specs.Io.KnownBytes.Keeps, verity_io.specs.Counting.{Side, TheDevice}, veritysetup.specs.declared.fault.Fault.Fault}
+use Rattle.{std.specs.Io.KnownBytes.Keeps, verity_io.specs.Counting.{Side, TheDevice}, verity_pass.specs.declared.comparing.CompareFault.CompareFault}
+use Rattle.veritysetup.specs.{declared.fault.Fault.Fault, Texts.Messages.{unwritten_output_message, unwritten_superblock_message}}
+use Rattle.veritysetup.specs.Texts.Messages.{build_message, compare_message, incomplete_message, memory_message, no_random_message, option_message}
+use Rattle.veritysetup.specs.Texts.Messages.{super_message, too_large_message, unopened_message, unread_superblock_message, unwritten_message}
 use Rattle.command_line.specs.{Writing.AppendsPrefix, SystemWords.not_utf8_message, declared.writing.print_fault.PrintFault.PrintFault}
-use Rattle.verity_pass.specs.declared.comparing.CompareFault.{CompareFault}
-use Rattle.veritysetup.specs.Texts.Messages.{build_message, compare_message, incomplete_message, memory_message, no_random_message}
-use Rattle.veritysetup.specs.Texts.Messages.{option_message, super_message, too_large_message, unopened_message, unread_superblock_message}
-use Rattle.veritysetup.specs.Texts.Messages.{unwritten_message, unwritten_output_message, unwritten_superblock_message}
 use Rattle.command_line.specs.declared.words.system_words.WordsFault.TheVariants as words
 use Rattle.command_line.specs.declared.words.line_fault.LineFault.TheVariants as line
 use Rattle.command_line.specs.declared.writing.print_fault.PrintFault.TheVariants as print

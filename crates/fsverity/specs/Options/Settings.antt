@@ -1,12 +1,10 @@
 -- The settings that the options of `fsverity digest` give (fsverity(1), "fsverity digest"; Linux kernel, fs-verity
 -- page, "FS_IOC_ENABLE_VERITY"). Without options they are SHA-256, blocks of 4096 bytes and no salt.
-use Rattle.std.specs.Prelude.{ℕ, ◌&&◌, Bool, nat_lt, List, [], Option, Some, None, Result, Ok, Err, ok_or, unwrap_or, option_and_then}
-use Rattle.std.specs.Prelude.{if◌then◌else◌}
+use Rattle.std.specs.Prelude.{ℕ, ◌&&◌, Bool, nat_lt, List, [], Option, Some, None, Result, Ok, Err, ok_or, unwrap_or, option_and_then, if◌then◌else◌}
 use Rattle.verity_hash.specs.{Hashing.digest_len_of, declared.{algorithm.Algorithm.Algorithm, salting.SaltRule.TheVariants.PaddedBefore}}
 use Rattle.verity_plan.specs.Settings.{TreeSettingsFields, is_block_size, is_of_fsverity, least_block, most_salt}
 use Rattle.command_line.specs.Options.{algorithm_or_default, default_block_size, number_or, salt_of, ◌>>=◌}
-use Rattle.fsverity.specs.declared.options.option_fault.FsOptionFault.{FsOptionFault}
-use Rattle.fsverity.specs.declared.options.option_fault.FsOptionFault.TheVariants.{UnknownHash, BadBlockSize, BadSalt, OneFileOnly}
+use Rattle.fsverity.specs.declared.options.option_fault.FsOptionFault.{FsOptionFault, TheVariants.{UnknownHash, BadBlockSize, BadSalt, OneFileOnly}}
 
 -- the algorithm itself, if fs-verity has it
 abbrev pub algorithm_of_fsverity : Algorithm → Option Algorithm

@@ -1,12 +1,12 @@
 -- A run of `fsverity digest` over files, one after another (fsverity(1), "fsverity digest"): a line for each, up to the
 -- first that fails.
-use Rattle.std.specs.Prelude.{◌≡◌, ◌⊎◌, ℕ, ◌+◌, ◌<◌, ◌≤◌, Bool, true, false, not, List, [], ◌++◌, length, take, Option, IfSome, Some, None}
-use Rattle.std.specs.Prelude.{slice_get, slice_index_or}
+use Rattle.std.specs.Prelude.{◌≡◌, ◌⊎◌, ℕ, ◌+◌, ◌<◌, ◌≤◌, Bool, true, false, not, List, [], ◌++◌, length, take, Option, IfSome, Some, None, slice_get}
+use Rattle.std.specs.Prelude.{slice_index_or}
 use Rattle.{std.specs.{List.prefix_len, Io.KnownBytes.Appends}, verity_io.specs.Counting.{Counts, CountRose, TheSource, is_call_of}}
 use Rattle.command_line.specs.{Writing.AppendsPrefix, declared.writing.print_fault.PrintFault.TheVariants.Output}
-use Rattle.{verity_plan.specs.Settings.TreeSettingsFields, fsverity.specs.Faults.{IsAtFile, message_of, side_of}}
+use Rattle.{verity_plan.specs.Settings.TreeSettingsFields, fsverity.specs.declared.fault.Fault.TheVariants.{Unopened, Digest, DigestLine}}
+use Rattle.fsverity.specs.{Faults.{IsAtFile, message_of, side_of}, Openers.Opening.OpenerChange, declared.fault.Fault.Fault}
 use Rattle.fsverity.specs.Runs.Digested.{is_too_large, DigestInput, IsDigestAt, digest_line_at, AreDigestLines}
-use Rattle.fsverity.specs.{Openers.Opening.OpenerChange, declared.fault.Fault.{Fault, TheVariants.{Unopened, Digest, DigestLine}}}
 use Rattle.fsverity.specs.declared.runs.digest_fault.DigestFault.TheVariants.{TooLarge, SourceShort, SourceFailed, DeviceFailed, Memory}
 
 -- the file is there, and not too large

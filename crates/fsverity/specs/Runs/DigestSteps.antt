@@ -1,12 +1,12 @@
 -- The steps of a run: the digest of one file, and its line.
 -- For the private functions; not needed to read a public contract.
 use Rattle.std.specs.Prelude.{◌≡◌, ◌⊎◌, ℕ, ◌<◌, true, List, length, take, Option, Some, None, slice_get, Result, Ok, Err, MatchResult}
-use Rattle.{std.specs.Io.KnownBytes.{Appends, Keeps}, verity_hash.specs.declared.digest.Digest.Digest}
-use Rattle.{verity_io.specs.{Counting.CountRose, Reading.HasRead}, verity_plan.specs.Settings.TreeSettingsFields}
+use Rattle.{std.specs.Io.KnownBytes.{Appends, Keeps}, verity_hash.specs.declared.digest.Digest.Digest, verity_plan.specs.Settings.TreeSettingsFields}
+use Rattle.{verity_io.specs.{Counting.CountRose, Reading.HasRead}, verity_blocks.specs.Levels.root_of_file}
 use Rattle.fsverity.specs.Runs.{FileDigest.FaultsIn, Digest.{FailsAt, IsLargeAt, has_digest}, Digested.{DigestInput, IsDigestAt}}
 use Rattle.fsverity.specs.{Openers.Opening.OpenerChange, declared.{fault.Fault.Fault, runs.digest_fault.DigestFault.DigestFault}}
 use Rattle.fsverity.specs.declared.runs.digest_fault.DigestFault.TheVariants.{TooLarge, SourceShort, SourceFailed, DeviceFailed, Memory}
-use Rattle.{verity_blocks.specs.Levels.root_of_file, command_line.specs.declared.writing.print_fault.PrintFault.TheVariants.Output}
+use Rattle.command_line.specs.declared.writing.print_fault.PrintFault.TheVariants.{Output}
 use Rattle.fsverity.specs.declared.fault.Fault.TheVariants as fault
 
 -- the root hash for the first size bytes of a source, and how much was read

@@ -1,7 +1,7 @@
 -- What status 0 of digest stands for (fsverity(1), "fsverity digest"; Linux kernel, fs-verity page, "File digest
 -- computation"): a line for each file, in order.
-use Rattle.std.specs.Prelude.{◌≡◌, ℕ, zero, suc, Bool, false, not, List, [], ◌++◌, length, Option, Some, slice_get, slice_index_or, ◌&&◌}
-use Rattle.std.specs.Prelude.{is_ok, nat_lt}
+use Rattle.std.specs.Prelude.{◌≡◌, ℕ, zero, suc, Bool, false, not, List, [], ◌++◌, length, Option, Some, slice_get, slice_index_or, ◌&&◌, is_ok}
+use Rattle.std.specs.Prelude.{nat_lt}
 use Rattle.{verity_format.specs.Descriptors.{digest_of_file, DescriptorFields}, verity_blocks.specs.Levels.root_of_file}
 use Rattle.verity_plan.specs.{Plans.plan_for_bytes, Settings.{TreeSettingsFields, digest_len}}
 use Rattle.fsverity.specs.{Texts.Lines.digest_line, declared.texts.digest_lines.Form.Form}

@@ -1,15 +1,13 @@
 -- The file digest of fs-verity (Linux kernel, fs-verity page, "fs-verity descriptor" and "Merkle tree"), and the answer
 -- of making one of a source's bytes.
-use Rattle.std.specs.Prelude.{◌≡◌, ℕ, ◌+◌, ◌*◌, ◌/◌, ◌<◌, ◌≤◌, ◌==◌, min, List, [], length, Option, Some, None, IsNone, MatchOption, Result}
-use Rattle.std.specs.Prelude.{Err, MatchResult, if◌then◌else◌}
-use Rattle.verity_format.specs.Descriptors.{descriptor_bytes, digest_of_file}
-use Rattle.verity_io.specs.{Counting.{Side, TheDevice, TheSource}, Reading.HasRead}
-use Rattle.verity_blocks.specs.{Levels.{data_blocks, root_of_file}, TreeWriting.tree_on_device}
+use Rattle.std.specs.Prelude.{◌≡◌, ℕ, ◌+◌, ◌*◌, ◌/◌, ◌<◌, ◌≤◌, ◌==◌, min, List, [], length, Option, Some, None, IsNone, MatchOption, Result, Err}
+use Rattle.std.specs.Prelude.{MatchResult, if◌then◌else◌}
+use Rattle.{verity_format.specs.Descriptors.{descriptor_bytes, digest_of_file}, verity_io.specs.Counting.{Side, TheDevice, TheSource}}
+use Rattle.{verity_blocks.specs.{Levels.{data_blocks, root_of_file}, TreeWriting.tree_on_device}, verity_io.specs.Reading.HasRead}
 use Rattle.verity_pass.specs.{Building.BuildsOnDevice, Reading.ReadsUpTo, declared.building.BuildFault.BuildFault}
 use Rattle.verity_plan.specs.{Plans.plan_of_file, Settings.{TreeSettingsFields, digest_len}}
-use Rattle.fsverity.specs.declared.runs.digest_fault.DigestFault.{DigestFault}
+use Rattle.fsverity.specs.{declared.runs.{digest_fault.DigestFault.DigestFault, file_digest.FileDigest.FileDigest}, Runs.Digested.descriptor_of}
 use Rattle.fsverity.specs.declared.runs.digest_fault.DigestFault.TheVariants.{TooLarge, SourceShort, SourceFailed, DeviceFailed, Memory}
-use Rattle.fsverity.specs.{declared.runs.file_digest.FileDigest.FileDigest, Runs.Digested.descriptor_of}
 use Rattle.verity_pass.specs.declared.building.BuildFault.TheVariants as build
 
 -- a device with the tree of the first size bytes; an empty file has none

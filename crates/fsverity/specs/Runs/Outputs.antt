@@ -4,9 +4,9 @@ use Rattle.std.specs.Prelude.{◌≡◌, ◌↔◌, ℕ, ◌<◌, Bool, MatchBoo
 use Rattle.{std.specs.Io.KnownBytes.{Appends, Keeps}, command_line.specs.Writing.WritesText, verity_blocks.specs.Levels.root_of_file}
 use Rattle.{verity_format.specs.Descriptors.{descriptor_bytes, digest_of_file}, verity_plan.specs.Settings.{TreeSettingsFields, digest_len}}
 use Rattle.verity_io.specs.{Counting.{Change, Counts, TheDevice, TheSource, failed_at}, Reading.HasRead}
-use Rattle.fsverity.specs.{Faults.{IsTold, result_status, side_of}, Runs.FileDigest.{FaultsIn, Stands, with_tree}}
-use Rattle.fsverity.specs.{Runs.Digested.{descriptor_of, is_too_large}, Texts.{Lines.digest_line, TextChanges.{OutputChange, WriterChange}}}
-use Rattle.fsverity.specs.declared.{fault.Fault.{Fault, TheVariants.{Digest, Descriptor, DigestLine}}, texts.digest_lines.Form.Form}
+use Rattle.fsverity.specs.{Faults.{IsTold, result_status, side_of}, Runs.FileDigest.{FaultsIn, Stands, with_tree}, Texts.Lines.digest_line}
+use Rattle.fsverity.specs.{Runs.Digested.{descriptor_of, is_too_large}, Texts.TextChanges.{OutputChange, WriterChange}, declared.fault.Fault.Fault}
+use Rattle.fsverity.specs.declared.{fault.Fault.TheVariants.{Digest, Descriptor, DigestLine}, texts.digest_lines.Form.Form}
 use Rattle.fsverity.specs.declared.runs.{digest_fault.DigestFault.{DigestFault, TheVariants.TooLarge}, outputs.Written.Written}
 
 -- what a run gets beside the file's bytes: the settings, the form of the line, the file's name and its size, and

@@ -3,8 +3,7 @@
 use Rattle.std.specs.Prelude.{ℕ, List, [], ◌∷◌, codes}
 use Rattle.{std.specs.{List.concat, Fmt.decimal}, fsverity.specs.declared.runs.digest_fault.DigestFault.DigestFault}
 use Rattle.fsverity.specs.declared.runs.digest_fault.DigestFault.TheVariants.{TooLarge, SourceShort, SourceFailed, DeviceFailed, Memory}
-use Rattle.fsverity.specs.declared.options.option_fault.FsOptionFault.{FsOptionFault}
-use Rattle.fsverity.specs.declared.options.option_fault.FsOptionFault.TheVariants.{UnknownHash, BadBlockSize, BadSalt, OneFileOnly}
+use Rattle.fsverity.specs.declared.options.option_fault.FsOptionFault.{TheVariants.{UnknownHash, BadBlockSize, BadSalt, OneFileOnly}, FsOptionFault}
 
 abbrev pub memory_message : List ℕ
 memory_message = codes "fsverity: out of memory.\n"

@@ -1,13 +1,11 @@
 -- Steps of a tree that is made as its data come: what stands before a step, and what comes of several.
-use Rattle.std.proofs.Common.{◌≡◌, ℕ, zero, suc, ◌+◌, ◌-◌, ◌*◌, ◌/◌, ◌%◌, ◌<◌, ◌≤◌, ◌⊎◌, Bool, true, false, eqb, List, [], ◌++◌, ◌∷◌, take}
-use Rattle.std.proofs.Common.{drop, length, arith, refl, sym, ◌∙◌, ap, subst, inl, inr, append_assoc, length-append}
-use Rattle.std.proofs.lemmas.{Bool.Decides.nat_tests, Nat.{div-add-mod', mod_below}, List.{append-nil, length-take-le, take_rest}}
-use Rattle.std.proofs.Math.{Nat.{div-eq_of_lt-le, mul-div_cancel, zero-div, zero-mul}, Seq.take-add}
-use Rattle.verity_plan.specs.{Plans.{IsPlan, PlanFields}, Settings.fan}
-use Rattle.verity_blocks.specs.ClosingOrder.{closed_after, handed_out, blocks_before}
-use Rattle.verity_blocks.specs.Steps.Feeding.{ClosesNext, EndsWindow, FeedsOn, Hands, HasFed, HasWindow, IsHandingOut, handed_at, Stands}
-use Rattle.verity_blocks.specs.Steps.{Feeding.{TakesMore, first_blocks, windows_before}, OpenBlocks.HasOpenBlocks}
-use Rattle.verity_blocks.{specs.Windows.{window_blocks, window_length}, proofs.ClosingSteps.Climbing.KeepsOpen}
+use Rattle.std.proofs.Common.{◌≡◌, ℕ, zero, suc, ◌+◌, ◌-◌, ◌*◌, ◌/◌, ◌%◌, ◌<◌, ◌≤◌, ◌⊎◌, Bool, true, false, eqb, List, [], ◌++◌, ◌∷◌, take, drop}
+use Rattle.std.proofs.{Common.{length, arith, refl, sym, ◌∙◌, ap, subst, inl, inr, append_assoc, length-append}, lemmas.Bool.Decides.nat_tests}
+use Rattle.std.proofs.{lemmas.{Nat.{div-add-mod', mod_below}, List.{append-nil, length-take-le, take_rest}}, Math.Seq.take-add}
+use Rattle.{std.proofs.Math.Nat.{div-eq_of_lt-le, mul-div_cancel, zero-div, zero-mul}, verity_plan.specs.{Plans.{IsPlan, PlanFields}, Settings.fan}}
+use Rattle.verity_blocks.specs.{ClosingOrder.{closed_after, handed_out, blocks_before}, Steps.Feeding.{first_blocks, windows_before}}
+use Rattle.verity_blocks.specs.Steps.Feeding.{ClosesNext, EndsWindow, FeedsOn, Hands, HasFed, HasWindow, IsHandingOut, handed_at, Stands, TakesMore}
+use Rattle.verity_blocks.{specs.{Steps.OpenBlocks.HasOpenBlocks, Windows.{window_blocks, window_length}}, proofs.ClosingSteps.Climbing.KeepsOpen}
 use Rattle.verity_blocks.proofs.Windows.{LastByte.last-below, BytesToWindow.{HasWindow-full, closed_after-placed}}
 use Rattle.verity_blocks.proofs.{Windows.RowsOfWindow.{last-run, window-ended, window-wide}, Levels.FirstBlocks.plan-first_blocks}
 

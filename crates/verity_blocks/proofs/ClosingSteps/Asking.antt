@@ -1,15 +1,13 @@
 -- The root hash is asked for when all data of a plan has come: the last data block's digest goes up through all levels.
-use Rattle.std.proofs.Common.{◌≡◌, ℕ, ◌+◌, ◌-◌, ◌*◌, ◌/◌, ◌^◌, ◌<◌, ◌≤◌, List, length, length-drop, take, arith, refl, sym, ◌∙◌, ap, inl}
-use Rattle.std.proofs.{Common.{inr, zero, suc, get_or, []}, lemmas.Bool.cases_lt}
-use Rattle.std.{proofs.Math.Nat.{div-div-eq-div-mul, div-eq_of_lt, pow-le-pow_right, pow-suc}, specs.Fork.slice_chunk}
+use Rattle.std.proofs.Common.{◌≡◌, ℕ, ◌+◌, ◌-◌, ◌*◌, ◌/◌, ◌^◌, ◌<◌, ◌≤◌, List, length, length-drop, take, arith, refl, sym, ◌∙◌, ap, inl, inr, zero}
+use Rattle.std.proofs.{Common.{suc, get_or, []}, lemmas.Bool.cases_lt, Math.Nat.{div-div-eq-div-mul, div-eq_of_lt, pow-le-pow_right, pow-suc}}
+use Rattle.{std.specs.Fork.slice_chunk, verity_blocks.proofs.OpenBlocks.DigestsInTurn.quotient-same}
 use Rattle.verity_plan.{specs.{Plans.{IsPlan, PlanFields}, PlanCounts.level_count_of, Settings.{fan, hash}}, proofs.FanLemmas.fan-some}
-use Rattle.verity_blocks.specs.{ClosingOrder.blocks_before, Levels.{blocks_up, data_blocks, root}}
+use Rattle.verity_blocks.specs.{ClosingOrder.blocks_before, Levels.{blocks_up, data_blocks, root}, Windows.{window_blocks, window_length}}
 use Rattle.verity_blocks.specs.Steps.Feeding.{HasCome, HasFed, HasWindow, Stands, after_windows, last_window, windows_before}
-use Rattle.verity_blocks.specs.Steps.OpenBlocks.{IsAsking, carry_state, digests_under, level_digest, open_block}
-use Rattle.verity_blocks.{specs.Windows.{window_blocks, window_length}, proofs.ClosingSteps.Climbing.{blocks-most, handing-out}}
-use Rattle.verity_blocks.proofs.Windows.{LastByte.last-block, RowsOfWindow.{placed-in-window, window-beside}}
+use Rattle.verity_blocks.{specs.Steps.OpenBlocks.{IsAsking, carry_state, digests_under, level_digest, open_block}, proofs.Windows.LastByte.last-block}
+use Rattle.verity_blocks.proofs.{ClosingSteps.Climbing.{blocks-most, handing-out}, Windows.RowsOfWindow.{placed-in-window, window-beside}}
 use Rattle.verity_blocks.proofs.Levels.{FirstBlocks.plan-first_blocks, CutBlocks.length-cut, LevelCounts.height-level_count}
-use Rattle.verity_blocks.proofs.OpenBlocks.DigestsInTurn.{quotient-same}
 
 -- the last data block's digest comes to level 0
 pub IsAsking-first : (p : PlanFields) (levels first last : ℕ) (fed opened digest : List ℕ) → IsPlan p

@@ -1,13 +1,12 @@
 -- How digests come from the last byte's data block up through the levels whose hash blocks close.
 use Rattle.std.proofs.Common.{◌≡◌, ℕ, zero, suc, ◌+◌, ◌-◌, ◌*◌, ◌/◌, ◌%◌, ◌^◌, ◌<◌, ◌≤◌, List, [], length, ◌++◌, ◌∷◌, arith, refl, inl, inr}
 use Rattle.std.proofs.{Common.{append_assoc, ap, true, false}, lemmas.Bool.{cases_lt, Decides.nat_tests}, Math.Nat.pow-le-pow_right}
-use Rattle.{std.specs.Prelude.nat_lt, verity_plan.specs.{Plans.{IsPlan, PlanFields}, PlanCounts.level_count_of, Settings.fan}}
-use Rattle.verity_plan.proofs.{CountLemmas.{IsLevelCount-level_count, mul_le}, FanLemmas.{fan-some, fan-two}}
-use Rattle.verity_blocks.specs.{ClosingOrder.{blocks_before, closed_after, handed_out, most_closed}, Levels.data_blocks}
-use Rattle.verity_blocks.specs.Steps.Feeding.{EndsWindow, HasFed, IsHandingOut, Stands, handed_at, windows_before}
-use Rattle.verity_blocks.specs.{Steps.OpenBlocks.{HasClosed, HasOpenBlocks, IsReached}, Windows.window_length}
-use Rattle.verity_blocks.proofs.OpenBlocks.{ClosingBlocks.reached-down, Reached.IsReached-zero}
-use Rattle.verity_blocks.proofs.{Windows.LastByte.{all-count, last-below, last-block, whole-count}, Levels.CutBlocks.length-cut}
+use Rattle.verity_plan.{specs.{Plans.{IsPlan, PlanFields}, PlanCounts.level_count_of, Settings.fan}, proofs.FanLemmas.{fan-some, fan-two}}
+use Rattle.verity_blocks.specs.{ClosingOrder.{blocks_before, closed_after, handed_out, most_closed}, Levels.data_blocks, Windows.window_length}
+use Rattle.{verity_blocks.specs.Steps.Feeding.{EndsWindow, HasFed, IsHandingOut, Stands, handed_at, windows_before}, std.specs.Prelude.nat_lt}
+use Rattle.verity_blocks.{specs.Steps.OpenBlocks.{HasClosed, HasOpenBlocks, IsReached}, proofs.OpenBlocks.ClosingBlocks.reached-down}
+use Rattle.verity_blocks.proofs.{OpenBlocks.Reached.IsReached-zero, Windows.LastByte.{all-count, last-below, last-block, whole-count}}
+use Rattle.{verity_blocks.proofs.Levels.CutBlocks.length-cut, verity_plan.proofs.CountLemmas.{IsLevelCount-level_count, mul_le}}
 use Rattle.verity_blocks.proofs.Order.ClosingInTurn.{closed_after-more, closes-none, closes-reached, closing-prefix, first_closing-more}
 
 -- the data blocks of a plan are no more than its levels have room for

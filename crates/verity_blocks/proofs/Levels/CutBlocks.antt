@@ -1,8 +1,8 @@
 -- Runs of lists, and data blocks and hash blocks, with their digests.
 use Rattle.std.proofs.Common.{◌≡◌, ℕ, ◌+◌, ◌-◌, ◌*◌, ◌<◌, List, [], ◌∷◌, ◌++◌, take, drop, map, min, length, arith, sym, ◌∙◌, ap, get_or}
-use Rattle.std.proofs.{Common.{length-append, length-drop, replicate, ◌≤◌}, lemmas.List.{drop-take, length-replicate, take_min}}
-use Rattle.std.proofs.lemmas.{List.FromFn.{get_or-map-range_with_len, map-range_with_len_more, length-map-range_with_len}, Simd.map-map}
-use Rattle.{std.specs.{List.range_with_len, Fork.slice_chunk, Int.div_ceil}, verity_hash.specs.Hashing.with_zeros}
+use Rattle.std.proofs.{Common.{length-append, length-drop, replicate, ◌≤◌}, lemmas.{List.{drop-take, length-replicate, take_min}, Simd.map-map}}
+use Rattle.std.{proofs.lemmas.List.FromFn.{get_or-map-range_with_len, map-range_with_len_more, length-map-range_with_len}, specs.List.range_with_len}
+use Rattle.{std.specs.{Fork.slice_chunk, Int.div_ceil}, verity_hash.specs.Hashing.with_zeros}
 use Rattle.verity_plan.specs.Settings.{TreeSettingsFields, hash, fan}
 use Rattle.verity_blocks.specs.{Levels.{pack, cut, block_at, hash_block_of}, Steps.PlainRoots.{digest_of_group, digest_of_block}}
 

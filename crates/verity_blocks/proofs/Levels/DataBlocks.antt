@@ -1,8 +1,7 @@
 -- The digest of a data block, and how many whole blocks some bytes hold.
-use Rattle.std.proofs.Common.{List, [], arith, false, length, refl, take, true, ℕ, ◌/◌, ◌<◌, ◌≡◌, ◌≤◌}
-use Rattle.std.{proofs.lemmas.{List.FromFn.get_or-map-range_with_len, Bool.Decides.nat_tests}, specs.Prelude.nat_le}
-use Rattle.verity_blocks.specs.{Levels.{block_at, cut, blocks_up, whole_blocks}, Steps.PlainRoots.digest_of_block}
-use Rattle.verity_blocks.{specs.Steps.OpenBlocks.level_digest, proofs.OpenBlocks.DigestsInTurn.index-first}
+use Rattle.std.proofs.{Common.{List, [], arith, false, length, refl, take, true, ℕ, ◌/◌, ◌<◌, ◌≡◌, ◌≤◌}, lemmas.List.FromFn.get_or-map-range_with_len}
+use Rattle.{std.{proofs.lemmas.Bool.Decides.nat_tests, specs.Prelude.nat_le}, verity_blocks.proofs.OpenBlocks.DigestsInTurn.index-first}
+use Rattle.verity_blocks.specs.{Levels.{block_at, cut, blocks_up, whole_blocks}, Steps.{PlainRoots.digest_of_block, OpenBlocks.level_digest}}
 use Rattle.verity_plan.specs.{Plans.PlanFields, Settings.{TreeSettingsFields, fan}}
 
 -- the digest of data block i is what comes to level 0

@@ -1,14 +1,14 @@
 -- The first data blocks of what was fed are the first of all data, and so are the blocks that stand above them.
-use Rattle.std.proofs.Common.{◌≡◌, ℕ, zero, suc, ◌+◌, ◌-◌, ◌*◌, ◌/◌, ◌%◌, ◌^◌, ◌<◌, ◌≤◌, List, [], ◌++◌, get_or, drop, take, length}
-use Rattle.std.{proofs.Common.{replicate, map, arith, sym, ◌∙◌, ap, subst, length-drop}, specs.Int.div_ceil}
-use Rattle.std.proofs.lemmas.List.{length-map, length-take-le, get_or-take, take-map, append-nil, drop-take, ext_get_or, take-append-le}
-use Rattle.std.proofs.lemmas.{List.{take-take, FromFn.{fill_by_all, get_or-map-range_with_len, take-map-range_with_len}}, Nat.div-add-mod'}
-use Rattle.std.{proofs.Math.Nat.{pow-zero, pow-suc, one-le-pow, div-mul-le_self}, specs.{List.range_with_len, Fork.slice_chunk}}
-use Rattle.{verity_hash.specs.Hashing.with_zeros, verity_blocks.specs.Steps.OpenBlocks.{HasOpenBlocks, digests_under, open_block}}
+use Rattle.std.proofs.Common.{◌≡◌, ℕ, zero, suc, ◌+◌, ◌-◌, ◌*◌, ◌/◌, ◌%◌, ◌^◌, ◌<◌, ◌≤◌, List, [], ◌++◌, get_or, drop, take, length, replicate, map}
+use Rattle.std.{proofs.{Common.{arith, sym, ◌∙◌, ap, subst, length-drop}, lemmas.Nat.div-add-mod'}, specs.{Int.div_ceil, List.range_with_len}}
+use Rattle.std.proofs.lemmas.List.{length-map, length-take-le, get_or-take, take-map, append-nil, drop-take, ext_get_or, take-append-le, take-take}
+use Rattle.std.{proofs.lemmas.List.FromFn.{fill_by_all, get_or-map-range_with_len, take-map-range_with_len}, specs.Fork.slice_chunk}
+use Rattle.{std.proofs.Math.Nat.{pow-zero, pow-suc, one-le-pow, div-mul-le_self}, verity_hash.specs.Hashing.with_zeros}
+use Rattle.verity_blocks.specs.Steps.{OpenBlocks.{HasOpenBlocks, digests_under, open_block}, Feeding.first_blocks}
+use Rattle.verity_blocks.specs.Levels.{block_at, blocks_up, cut, data_blocks, hash_block_of, pack}
+use Rattle.verity_blocks.proofs.Levels.{CutBlocks.{get_or-pack, length-cut, run-of_front}, LevelCounts.{length-blocks_up, length-pack}}
 use Rattle.verity_plan.specs.{Plans.{IsPlan, PlanFields, block_count}, Settings.{IsValid, TreeSettingsFields, hash, fan}}
 use Rattle.verity_plan.proofs.{CountLemmas.{div_ceil-le, div_ceil-most, mul_le}, FanLemmas.{fan-some, some_data}}
-use Rattle.verity_blocks.specs.{Levels.{block_at, blocks_up, cut, data_blocks, hash_block_of, pack}, Steps.Feeding.first_blocks}
-use Rattle.verity_blocks.proofs.Levels.{CutBlocks.{get_or-pack, length-cut, run-of_front}, LevelCounts.{length-blocks_up, length-pack}}
 
 -- the hash blocks above whole groups of digests are those of these groups alone
 pack-front : (s : TreeSettingsFields) (digests : List (List ℕ)) (k : ℕ) → 0 < fan s → k * fan s ≤ length digests

@@ -1,9 +1,8 @@
 -- Lengths of levels, and how many levels there are.
 use Rattle.std.proofs.{Common.{◌≡◌, ℕ, zero, suc, ◌+◌, ◌^◌, ◌<◌, List, length, map, arith, sym, ◌∙◌, ap}, lemmas.List.length-map}
-use Rattle.std.{proofs.{lemmas.List.FromFn.length-map-range_with_len, Math.Nat.{pow-zero, pow-suc, one-le-pow}}, specs.Int.div_ceil}
-use Rattle.{std.specs.Prelude.nat_le, verity_plan.proofs.CountLemmas.{div_ceil-div_ceil, leb-div_ceil_one}}
-use Rattle.verity_plan.{specs.{Settings.{TreeSettingsFields, fan, hash}, Plans.level_count}, proofs.LeastLemmas.least_from-same}
-use Rattle.verity_blocks.specs.Levels.{pack, up, blocks_up, height}
+use Rattle.std.{proofs.{lemmas.List.FromFn.length-map-range_with_len, Math.Nat.{pow-zero, pow-suc, one-le-pow}}, specs.{Int.div_ceil, Prelude.nat_le}}
+use Rattle.verity_plan.{proofs.CountLemmas.{div_ceil-div_ceil, leb-div_ceil_one}, specs.{Settings.{TreeSettingsFields, fan, hash}, Plans.level_count}}
+use Rattle.{verity_plan.proofs.LeastLemmas.least_from-same, verity_blocks.specs.Levels.{pack, up, blocks_up, height}}
 
 pub length-pack : (s : TreeSettingsFields) (digests : List (List ℕ))
     → length (pack s digests) ≡ div_ceil (length digests) (fan s)

@@ -1,10 +1,9 @@
 -- A digest on its way up: which hash blocks close with its data block.
-use Rattle.std.proofs.Common.{List, ap, arith, inl, inr, length, true, ℕ, ◌*◌, ◌+◌, ◌-◌, ◌/◌, ◌<◌, ◌^◌, ◌∙◌, ◌≡◌, ◌≤◌}
-use Rattle.std.proofs.{lemmas.{Bool.cases_lt, Nat.{div-mul-add, mod-mul-add, pow-add}}, Math.Nat.one-le-pow}
-use Rattle.verity_blocks.proofs.{OpenBlocks.Reached.div_ceil-last, Order.ClosingInTurn.{closes-reached, closes-last}}
-use Rattle.verity_blocks.specs.{ClosingOrder.closes, Steps.OpenBlocks.{IsReached, HasClosed}}
-use Rattle.verity_plan.{specs.{Settings.{TreeSettingsFields, fan}, Plans.level_size}, proofs.FanLemmas.fan-some}
-use Rattle.verity_plan.proofs.IndexLemmas.{quotient-below}
+use Rattle.std.proofs.{Common.{List, ap, arith, inl, inr, length, true, ℕ, ◌*◌, ◌+◌, ◌-◌, ◌/◌, ◌<◌, ◌^◌, ◌∙◌, ◌≡◌, ◌≤◌}, lemmas.Bool.cases_lt}
+use Rattle.std.proofs.{lemmas.Nat.{div-mul-add, mod-mul-add, pow-add}, Math.Nat.one-le-pow}
+use Rattle.verity_blocks.{proofs.{OpenBlocks.Reached.div_ceil-last, Order.ClosingInTurn.{closes-reached, closes-last}}, specs.ClosingOrder.closes}
+use Rattle.verity_blocks.specs.Steps.OpenBlocks.{IsReached, HasClosed}
+use Rattle.verity_plan.{specs.{Settings.{TreeSettingsFields, fan}, Plans.level_size}, proofs.{FanLemmas.fan-some, IndexLemmas.quotient-below}}
 
 -- what is reached was reached at the levels below
 pub reached-down : (f i m l : ℕ) → 0 < f → IsReached f i m → l ≤ m → IsReached f i l

@@ -1,16 +1,15 @@
 -- A digest that comes to the open block of its level, how the block is written among the others, and the open blocks
 -- before any digest has come.
-use Rattle.std.proofs.Common.{◌≡◌, ℕ, ◌+◌, ◌-◌, ◌*◌, ◌/◌, ◌%◌, ◌^◌, ◌<◌, ◌≤◌, ◌⊎◌, List, [], length-drop, ◌++◌, get_or, take, drop, length}
-use Rattle.std.proofs.{Common.{replicate, arith, sym, ◌∙◌, ap, subst, inl, inr}, lemmas.Bool.cases_lt}
-use Rattle.std.proofs.lemmas.{Nat.{div-add-mod', le-div, mod_below}, List.{length-map, length-take-le, drop-replicate, take-replicate}}
-use Rattle.std.{proofs.lemmas.Slice.{take-put_mid_below, drop-put_mid, between-put_mid}, specs.{Fork.slice_chunk, Int.div_ceil}}
+use Rattle.std.proofs.Common.{◌≡◌, ℕ, ◌+◌, ◌-◌, ◌*◌, ◌/◌, ◌%◌, ◌^◌, ◌<◌, ◌≤◌, ◌⊎◌, List, [], length-drop, ◌++◌, get_or, take, drop, length, replicate}
+use Rattle.std.proofs.{Common.{arith, sym, ◌∙◌, ap, subst, inl, inr}, lemmas.{Bool.cases_lt, Nat.{div-add-mod', le-div, mod_below}}}
+use Rattle.std.{proofs.lemmas.List.{length-map, length-take-le, drop-replicate, take-replicate}, specs.{Fork.slice_chunk, Int.div_ceil}}
+use Rattle.{std.proofs.lemmas.Slice.{take-put_mid_below, drop-put_mid, between-put_mid}, verity_blocks.specs.Levels.{hash_block_of, blocks_up, root}}
 use Rattle.std.proofs.Math.Nat.{div-div-eq-div-mul, div-eq_of_lt, div-mul-le_self, one-le-pow, pow-zero, zero-div, zero-mod}
-use Rattle.verity_plan.specs.{Settings.{TreeSettingsFields, hash, fan, slot_width, digest_len}, Plans.level_count}
-use Rattle.verity_plan.proofs.{CountLemmas.{IsLevelCount-level_count, mul_le}, FanLemmas.fan-some, FitLemmas.digest-slot}
-use Rattle.{verity_plan.proofs.IndexLemmas.{quotient-next, quotient-below}, verity_blocks.specs.Levels.{hash_block_of, blocks_up, root}}
+use Rattle.verity_plan.{specs.{Settings.{TreeSettingsFields, hash, fan, slot_width, digest_len}, Plans.level_count}, proofs.FanLemmas.fan-some}
+use Rattle.verity_plan.proofs.{CountLemmas.{IsLevelCount-level_count, mul_le}, FitLemmas.digest-slot, IndexLemmas.{quotient-next, quotient-below}}
 use Rattle.verity_blocks.specs.Steps.OpenBlocks.{digests_under, open_block, HasOpenBlocks, level_digest, IsCarrying, carry_state}
-use Rattle.verity_blocks.proofs.Levels.{CutBlocks.run-of_front, LevelCounts.{length-blocks_up, height-level_count}}
-use Rattle.verity_blocks.proofs.OpenBlocks.{Reached.{div_ceil-last, IsReached-zero}, OpenBlock.{open-push, open-close, block-up}}
+use Rattle.verity_blocks.proofs.{Levels.LevelCounts.{length-blocks_up, height-level_count}, OpenBlocks.Reached.{div_ceil-last, IsReached-zero}}
+use Rattle.verity_blocks.proofs.{OpenBlocks.OpenBlock.{open-push, open-close, block-up}, Levels.CutBlocks.run-of_front}
 use borrow.Rule.Slice.PartMut.{put_mid}
 
 -- an open block once digest q has come too

@@ -1,14 +1,13 @@
 -- An open block as digests come to it.
-use Rattle.std.proofs.Common.{◌≡◌, ℕ, suc, ◌+◌, ◌-◌, ◌*◌, ◌/◌, ◌%◌, ◌<◌, ◌≤◌, ◌⊎◌, List, [], ◌∷◌, ◌++◌, get_or, take, drop, length, map}
-use Rattle.std.{proofs.Common.{replicate, arith, sym, ◌∙◌, ap, inl, inr, length-append, length-drop, append_assoc}, specs.Int.div_ceil}
-use Rattle.{std.proofs.lemmas.Nat.{div-add-mod', mod_below}, verity_hash.{specs.Hashing.with_zeros, proofs.HashLemmas.length-salted_hash}}
-use Rattle.std.proofs.lemmas.List.{length-map, length-take-le, get_or-map, get_or-drop, take-map, drop-map, take_at, drop-replicate}
-use Rattle.std.proofs.lemmas.List.{length-replicate, replicate-append-replicate, take_all, flat_map_more, take-append-drop, take-take}
-use Rattle.std.{proofs.{lemmas.{List.take_more, Grind.flat_map-append}, Math.Seq.drop-append-add}, specs.{List.flat_map, Fork.slice_chunk}}
+use Rattle.std.proofs.Common.{◌≡◌, ℕ, suc, ◌+◌, ◌-◌, ◌*◌, ◌/◌, ◌%◌, ◌<◌, ◌≤◌, ◌⊎◌, List, [], ◌∷◌, ◌++◌, get_or, take, drop, length, map, replicate}
+use Rattle.std.{proofs.Common.{arith, sym, ◌∙◌, ap, inl, inr, length-append, length-drop, append_assoc}, specs.{Int.div_ceil, List.flat_map}}
+use Rattle.std.{proofs.{lemmas.{Nat.{div-add-mod', mod_below}, Grind.flat_map-append}, Math.Seq.drop-append-add}, specs.Fork.slice_chunk}
+use Rattle.std.proofs.lemmas.List.{length-map, length-take-le, get_or-map, get_or-drop, take-map, drop-map, take_at, drop-replicate, length-replicate}
+use Rattle.std.proofs.lemmas.List.{replicate-append-replicate, take_all, flat_map_more, take-append-drop, take-take, take_more}
+use Rattle.{verity_hash.{specs.Hashing.with_zeros, proofs.HashLemmas.length-salted_hash}, verity_blocks.proofs.Levels.CutBlocks.get_or-pack}
 use Rattle.verity_plan.proofs.{CountLemmas.mul_le, FanLemmas.fan-some, FitLemmas.digest-slot}
 use Rattle.verity_plan.specs.Settings.{TreeSettingsFields, hash, fan, slot, slot_width, digest_len}
 use Rattle.verity_blocks.specs.{Levels.{hash_block_of, blocks_up}, Steps.OpenBlocks.{digests_under, open_block}}
-use Rattle.verity_blocks.proofs.Levels.CutBlocks.{get_or-pack}
 
 pub length-hash : (s : TreeSettingsFields) (x : List ℕ) → length (hash s x) ≡ digest_len s
 unfolding hash

@@ -1,7 +1,7 @@
 -- Where the levels stand as one more data block comes.
-use Rattle.std.proofs.{Common.{◌≡◌, ℕ, ◌+◌, ◌-◌, ◌*◌, ◌/◌, ◌%◌, ◌^◌, ◌<◌, arith, sym, ◌∙◌, ap}, lemmas.Grind.pow_more}
+use Rattle.std.{proofs.{Common.{◌≡◌, ℕ, ◌+◌, ◌-◌, ◌*◌, ◌/◌, ◌%◌, ◌^◌, ◌<◌, arith, sym, ◌∙◌, ap}, lemmas.Grind.pow_more}, specs.Int.div_ceil}
 use Rattle.{std.proofs.lemmas.Nat.{div-add-mod', mod-mul-add, div-mul-add, pow-add}, verity_blocks.specs.Steps.OpenBlocks.IsReached}
-use Rattle.std.{proofs.Math.Nat.{div-div-eq-div-mul, mul-div_cancel, one-le-pow, pow-zero}, specs.Int.div_ceil}
+use Rattle.std.proofs.Math.Nat.{div-div-eq-div-mul, mul-div_cancel, one-le-pow, pow-zero}
 use Rattle.verity_plan.proofs.{CountLemmas.div_ceil-below, IndexLemmas.quotient-next}
 
 -- a number of data blocks, divided and rounded up, is one more than the place of the last

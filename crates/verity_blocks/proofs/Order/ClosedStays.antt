@@ -1,10 +1,9 @@
 -- A block that has closed depends on the data before it alone.
-use Rattle.std.proofs.Common.{◌≡◌, ℕ, zero, suc, ◌+◌, ◌*◌, ◌^◌, ◌<◌, ◌≤◌, min, List, [], get_or, length, map, arith, sym, ◌∙◌, ap}
-use Rattle.std.proofs.{Common.length-drop, lemmas.List.{length-map, length-take, get_or-map, ext_get_or, places}}
-use Rattle.std.{proofs.Math.Nat.{pow-zero, pow-suc, one-le-pow}, specs.{Fork.slice_chunk, Int.div_ceil}}
+use Rattle.std.proofs.Common.{◌≡◌, ℕ, zero, suc, ◌+◌, ◌*◌, ◌^◌, ◌<◌, ◌≤◌, min, List, [], get_or, length, map, arith, sym, ◌∙◌, ap, length-drop}
+use Rattle.std.proofs.{lemmas.List.{length-map, length-take, get_or-map, ext_get_or, places}, Math.Nat.{pow-zero, pow-suc, one-le-pow}}
 use Rattle.verity_blocks.specs.{ClosingOrder.{closed_after, times}, TreeOnDevice.tree_block, Levels.{hash_block_of, blocks_up}}
-use Rattle.verity_blocks.proofs.{Order.ClosesOnce.closed_time, Levels.{LevelCounts.length-blocks_up, CutBlocks.get_or-pack}}
-use Rattle.verity_plan.{specs.Settings.{TreeSettingsFields, hash, fan}, proofs.CountLemmas.{div_ceil-div_ceil, mul_le}}
+use Rattle.{verity_blocks.proofs.{Order.ClosesOnce.closed_time, Levels.{LevelCounts.length-blocks_up, CutBlocks.get_or-pack}}, std.specs.Int.div_ceil}
+use Rattle.{verity_plan.{specs.Settings.{TreeSettingsFields, hash, fan}, proofs.CountLemmas.{div_ceil-div_ceil, mul_le}}, std.specs.Fork.slice_chunk}
 
 -- two runs with the same elements are one
 pub slice_chunk-same : (xs ys : List (List ℕ)) (size j : ℕ) → length xs ≡ length ys

@@ -1,11 +1,11 @@
 -- The closing order, cut between data blocks and between levels, and hash blocks that are put at their places in turn.
-use Rattle.std.proofs.Common.{◌≡◌, ℕ, zero, suc, ◌+◌, ◌/◌, ◌%◌, ◌^◌, ◌<◌, ◌≤◌, Bool, true, false, List, [], ◌∷◌, ◌++◌, map, length, arith}
-use Rattle.std.proofs.{Common.{sym, ◌∙◌, ap, refl, append_assoc}, lemmas.{Bool.Decides.nat_tests, Nat.{div-add-mod', mod-mul-add}}}
-use Rattle.std.proofs.{lemmas.List.{FromFn.map-range_with_len_more, append-nil, map-append}, Math.Nat.one-le-pow}
-use Rattle.{std.specs.{List.{filter, range_with_len}, Prelude.slice_index_or}, verity_blocks.proofs.OpenBlocks.Reached.quotient-stays}
-use Rattle.{verity_plan.specs.{Plans.{level_count, start_byte}, Settings.TreeSettingsFields}, verity_io.specs.Writing.put}
+use Rattle.std.proofs.Common.{◌≡◌, ℕ, zero, suc, ◌+◌, ◌/◌, ◌%◌, ◌^◌, ◌<◌, ◌≤◌, Bool, true, false, List, [], ◌∷◌, ◌++◌, map, length, arith, sym, ◌∙◌}
+use Rattle.std.proofs.{Common.{ap, refl, append_assoc}, lemmas.{Bool.Decides.nat_tests, Nat.{div-add-mod', mod-mul-add}}, Math.Nat.one-le-pow}
+use Rattle.std.{proofs.lemmas.List.{FromFn.map-range_with_len_more, append-nil, map-append}, specs.List.{filter, range_with_len}}
+use Rattle.{std.specs.Prelude.slice_index_or, verity_plan.specs.{Plans.{level_count, start_byte}, Settings.TreeSettingsFields}}
+use Rattle.verity_blocks.{proofs.OpenBlocks.Reached.quotient-stays, specs.{TreeWriting.device_with, Steps.OpenBlocks.IsReached, Levels.blocks_up}}
 use Rattle.verity_blocks.specs.ClosingOrder.{BlockIndex, block_index, closes, closing_with, closed_after, first_closing}
-use Rattle.verity_blocks.specs.{TreeWriting.device_with, Steps.OpenBlocks.IsReached, Levels.blocks_up}
+use Rattle.verity_io.specs.Writing.{put}
 
 -- the hash blocks of some levels, one of each that passes a test
 abbrev pub passing : (ℕ → ℕ) → (ℕ → Bool) → List ℕ → List BlockIndex

@@ -1,13 +1,12 @@
 -- Hash blocks that are handed out stay the tree's, and joined over all calls they are those that building writes.
-use Rattle.std.proofs.Common.{◌≡◌, ℕ, ◌+◌, ◌*◌, ◌/◌, ◌^◌, ◌<◌, ◌≤◌, List, [], ◌++◌, get_or, length, min, zero, suc, arith, refl, sym, ◌∙◌}
-use Rattle.std.proofs.{Common.{ap, inl, inr, length-append}, lemmas.{Bool.cases_lt, List.{append-nil, nil_from_length}}}
-use Rattle.{std.{proofs.Math.Nat.{one-le-pow, zero-div}, specs.Int.div_ceil}, verity_blocks.proofs.Order.ClosedStays.blocks_up-prefix}
-use Rattle.verity_plan.{specs.{Plans.{IsPlan, PlanFields}, PlanCounts.level_count_of, Settings.fan}, proofs.CountLemmas.mul_le}
-use Rattle.verity_plan.proofs.{FanLemmas.fan-some, IndexLemmas.quotient-below}
-use Rattle.verity_blocks.specs.{ClosingOrder.{closed_after, handed_out, blocks_before}, Levels.data_blocks}
-use Rattle.verity_blocks.specs.{Steps.{Feeding.{EndsWindow, IsHandingOut, Stands}, OpenBlocks.HasClosed}, TreeOnDevice.tree_block}
+use Rattle.std.proofs.Common.{◌≡◌, ℕ, ◌+◌, ◌*◌, ◌/◌, ◌^◌, ◌<◌, ◌≤◌, List, [], ◌++◌, get_or, length, min, zero, suc, arith, refl, sym, ◌∙◌, ap, inl}
+use Rattle.std.proofs.{Common.{inr, length-append}, lemmas.{Bool.cases_lt, List.{append-nil, nil_from_length}}, Math.Nat.{one-le-pow, zero-div}}
+use Rattle.{std.specs.Int.div_ceil, verity_plan.proofs.IndexLemmas.quotient-below}
+use Rattle.verity_blocks.{proofs.Order.ClosedStays.blocks_up-prefix, specs.ClosingOrder.{closed_after, handed_out, blocks_before}}
+use Rattle.verity_blocks.specs.{Levels.data_blocks, Steps.{Feeding.{EndsWindow, IsHandingOut, Stands}, OpenBlocks.HasClosed}, TreeOnDevice.tree_block}
 use Rattle.verity_blocks.proofs.{Windows.LastByte.{last-below, last-block, whole-block}, Levels.FirstBlocks.{chunk-front, cut-block}}
 use Rattle.verity_blocks.proofs.{Levels.CutBlocks.length-cut, Order.ClosingInTurn.{closed_after-more, closes-last, closing-prefix}}
+use Rattle.verity_plan.{specs.{Plans.{IsPlan, PlanFields}, PlanCounts.level_count_of, Settings.fan}, proofs.{CountLemmas.mul_le, FanLemmas.fan-some}}
 
 -- the data blocks of some bytes, as far as these are whole blocks, are those of bytes that go on
 whole-same : (p : PlanFields) (n k : ℕ) (fed more : List ℕ) → n * p.settings.data_block ≤ length fed

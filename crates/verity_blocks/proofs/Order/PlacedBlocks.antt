@@ -2,11 +2,10 @@
 use Rattle.std.proofs.Common.{◌≡◌, ℕ, ◌+◌, ◌-◌, ◌*◌, ◌<◌, ◌≤◌, ◌⊎◌, List, length, take, drop, get_or, rules, arith, sym, ◌∙◌, ap, inl, inr}
 use Rattle.std.{proofs.{Common.{length-append, length-drop, map, mul-le-mul_right, subst}, lemmas.Bool.cases_order}, specs.List.flat_map}
 use Rattle.std.{proofs.lemmas.List.{length-replicate, length-take, places, same_lists, drop-map, take-map}, specs.Fork.slice_chunk}
-use Rattle.verity_io.specs.Writing.{put}
+use Rattle.{verity_io.specs.Writing.put, verity_blocks.proofs.{Levels.LevelCounts.groups-under, OpenBlocks.OpenBlock.{block-up, length-slots}}}
 use Rattle.verity_plan.specs.{Plans.{IsTreeBlock, place, start_byte}, Settings.{TreeSettingsFields, fan, slot_width, hash, slot}}
 use Rattle.verity_plan.proofs.{CountLemmas.mul_le, FanLemmas.fan-some, FitLemmas.digest-slot, PlaceLemmas.PlacesAreOnce-all}
 use Rattle.verity_blocks.{specs.{TreeOnDevice.tree_block, Levels.{blocks_up, hash_block_of}}, proofs.Levels.CutBlocks.length-with_zeros}
-use Rattle.verity_blocks.proofs.{Levels.LevelCounts.groups-under, OpenBlocks.OpenBlock.{block-up, length-slots}}
 
 pub length-put : (device : List ℕ) (at : ℕ) (bytes : List ℕ)
     → length (put device at bytes) ≡ at + length bytes + (length device - (at + length bytes))

@@ -1,20 +1,16 @@
 -- Bytes that come to the window, read or fed, and its data blocks, which come to the open blocks: none before the last
 -- byte's closes a hash block.
-use Rattle.std.proofs.Common.{◌≡◌, ◌≢◌, ℕ, zero, suc, ◌+◌, ◌-◌, ◌*◌, ◌/◌, ◌%◌, ◌<◌, ◌≤◌, List, [], ◌++◌, length, take, drop, replicate}
-use Rattle.std.proofs.Common.{arith, rules, sym, ◌∙◌, ap, refl, inl, inr, length-append, length-drop}
-use Rattle.{std.proofs.Math.{Nat.{div-eq_of_lt-le, zero-div, zero-mul}, Seq.drop-nil}, verity_plan.proofs.FanLemmas.fan-some}
-use Rattle.std.proofs.lemmas.List.{append-nil, drop-append-le, drop-drop, drop_all, places, same_lists, take_all}
-use Rattle.std.{proofs.lemmas.Nat.{div-add-mod', mod_below}, specs.Fork.slice_chunk}
-use Rattle.verity_plan.{specs.{Plans.{IsPlan, PlanFields}, Settings.{TreeSettingsFields, fan, hash}}, proofs.CountLemmas.mul_le}
-use Rattle.verity_blocks.specs.{ClosingOrder.{blocks_before, closed_after, closing_with}, Levels.{block_at, data_blocks}}
-use Rattle.verity_blocks.specs.Steps.{Batches.HoldsDataBlocks, Closing.EndsBlock}
-use Rattle.verity_blocks.specs.Steps.Feeding.{HasCome, HasFed, HasWindow, IsSettled, after_windows, IsWindowPlace, first_blocks}
-use Rattle.verity_blocks.specs.Steps.{Feeding.windows_before, OpenBlocks.{HasOpenBlocks, level_digest}}
-use Rattle.verity_blocks.specs.{Windows.{window_blocks, window_length}, declared.window.WindowPlace.WindowPlace}
-use Rattle.verity_blocks.proofs.Levels.{DataBlocks.level_digest-data, FirstBlocks.{first_blocks-more, first_blocks-plan}}
-use Rattle.verity_blocks.proofs.{Levels.CutBlocks.length-cut, OpenBlocks.DigestsInTurn.{HasOpenBlocks-zeros, index-first}}
-use Rattle.verity_blocks.proofs.{OpenBlocks.Reached.IsReached-zero, Order.ClosingInTurn.{closed_after-more, closes-none, closing-prefix}}
-use Rattle.verity_blocks.proofs.Windows.RowsOfWindow.{placed-in-window, window-batch}
+use Rattle.std.proofs.Common.{◌≡◌, ◌≢◌, ℕ, zero, suc, ◌+◌, ◌-◌, ◌*◌, ◌/◌, ◌%◌, ◌<◌, ◌≤◌, List, [], ◌++◌, length, take, drop, replicate, arith, rules}
+use Rattle.std.proofs.{Common.{sym, ◌∙◌, ap, refl, inl, inr, length-append, length-drop}, Math.Nat.{div-eq_of_lt-le, zero-div, zero-mul}}
+use Rattle.std.proofs.{Math.Seq.drop-nil, lemmas.List.{append-nil, drop-append-le, drop-drop, drop_all, places, same_lists, take_all}}
+use Rattle.{std.{proofs.lemmas.Nat.{div-add-mod', mod_below}, specs.Fork.slice_chunk}, verity_blocks.specs.declared.window.WindowPlace.WindowPlace}
+use Rattle.verity_plan.{proofs.{FanLemmas.fan-some, CountLemmas.mul_le}, specs.{Plans.{IsPlan, PlanFields}, Settings.{TreeSettingsFields, fan, hash}}}
+use Rattle.verity_blocks.specs.{ClosingOrder.{blocks_before, closed_after, closing_with}, Levels.{block_at, data_blocks}, Steps.Closing.EndsBlock}
+use Rattle.verity_blocks.specs.{Steps.{Batches.HoldsDataBlocks, OpenBlocks.{HasOpenBlocks, level_digest}}, Windows.{window_blocks, window_length}}
+use Rattle.verity_blocks.specs.Steps.Feeding.{HasCome, HasFed, HasWindow, IsSettled, after_windows, IsWindowPlace, first_blocks, windows_before}
+use Rattle.verity_blocks.proofs.{Levels.{FirstBlocks.{first_blocks-more, first_blocks-plan}, CutBlocks.length-cut}, OpenBlocks.Reached.IsReached-zero}
+use Rattle.verity_blocks.proofs.{OpenBlocks.DigestsInTurn.{HasOpenBlocks-zeros, index-first}, Windows.RowsOfWindow.{placed-in-window, window-batch}}
+use Rattle.verity_blocks.proofs.{Order.ClosingInTurn.{closed_after-more, closes-none, closing-prefix}, Levels.DataBlocks.level_digest-data}
 use borrow.Rule.Slice.PartMut.{put_mid}
 
 -- a data block of the window

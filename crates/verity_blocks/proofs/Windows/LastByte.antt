@@ -1,9 +1,8 @@
 -- The data block that the last byte is in: it is one of the plan's; and when that byte is its last, or the last of all.
 use Rattle.std.proofs.Common.{◌≡◌, ℕ, ◌+◌, ◌-◌, ◌*◌, ◌<◌, ◌≤◌, arith, sym, ◌∙◌, ap, inl, inr}
-use Rattle.verity_plan.specs.{Plans.{IsPlan, PlanFields}, Settings.{IsValid, TreeSettingsFields}}
-use Rattle.verity_plan.proofs.{CountLemmas.{div_ceil-below, le-div_ceil}, FanLemmas.some_data, IndexLemmas.quotient-below}
+use Rattle.verity_plan.{specs.{Plans.{IsPlan, PlanFields}, Settings.{IsValid, TreeSettingsFields}}, proofs.CountLemmas.{div_ceil-below, le-div_ceil}}
+use Rattle.{verity_plan.proofs.{FanLemmas.some_data, IndexLemmas.quotient-below}, verity_blocks.proofs.Windows.RowsOfWindow.window-ended}
 use Rattle.verity_blocks.specs.{ClosingOrder.blocks_before, Steps.Feeding.{EndsWindow, windows_before}, Windows.window_length}
-use Rattle.verity_blocks.proofs.Windows.RowsOfWindow.{window-ended}
 
 -- the last byte's data block is one of the plan's
 pub last-below : (p : PlanFields) (count : ℕ) → IsPlan p → 0 < count → count ≤ p.wanted

@@ -1,11 +1,10 @@
 -- The window of data blocks: how many it has, that no hash block closes within it, and where the last byte is in it.
-use Rattle.std.proofs.Common.{◌≡◌, ℕ, zero, suc, ◌+◌, ◌-◌, ◌*◌, ◌/◌, ◌%◌, ◌^◌, ◌<◌, ◌≤◌, arith, sym, ◌∙◌, ap, inl, inr, min}
-use Rattle.std.proofs.lemmas.{Bool.cases_lt, Nat.{div-add-mod', le-div, mod-mul-add, mod_below, mul-le, pow-add, pow_pos}}
-use Rattle.std.proofs.Math.{Nat.{div-div-eq-div-mul, div-eq_of_lt-le, mul-div_cancel, mul_assoc}, Pow.pow-lt}
+use Rattle.std.proofs.{Common.{◌≡◌, ℕ, zero, suc, ◌+◌, ◌-◌, ◌*◌, ◌/◌, ◌%◌, ◌^◌, ◌<◌, ◌≤◌, arith, sym, ◌∙◌, ap, inl, inr, min}, lemmas.Bool.cases_lt}
+use Rattle.std.proofs.{lemmas.Nat.{div-add-mod', le-div, mod-mul-add, mod_below, mul-le, pow-add, pow_pos}, Math.Pow.pow-lt}
+use Rattle.{std.proofs.Math.Nat.{div-div-eq-div-mul, div-eq_of_lt-le, mul-div_cancel, mul_assoc}, verity_blocks.specs.ClosingOrder.blocks_before}
 use Rattle.verity_plan.{specs.{Plans.{IsPlan, PlanFields}, Settings.{IsValid, TreeSettingsFields, fan}}, proofs.CountLemmas.mul_le}
 use Rattle.verity_plan.proofs.{FanLemmas.{block_power, data_most, fan-power, fan-some, some_data}, FitLemmas.power_of_two-is}
-use Rattle.verity_blocks.specs.{ClosingOrder.blocks_before, Steps.{Feeding.windows_before, Batches.IsBatch, Closing.EndsBlock}}
-use Rattle.verity_blocks.specs.Windows.{window_blocks, window_length}
+use Rattle.verity_blocks.specs.{Windows.{window_blocks, window_length}, Steps.{Feeding.windows_before, Batches.IsBatch, Closing.EndsBlock}}
 
 -- a power of two that isn't above another divides it, and as often as a power of two
 power-divides : (x y j k : ℕ) → x ≡ 2 ^ j → y ≡ 2 ^ k → x ≤ y → (m : ℕ) × (y ≡ 2 ^ m * x)

@@ -1,11 +1,10 @@
 -- A tree that is made as its data come, read or fed: the open blocks and the window between two steps, and each step.
 -- For the crates that make trees; a contract of `verity_tree` says only that bytes were fed.
-use Rattle.std.specs.Prelude.{◌≡◌, ◌⊎◌, ◌<◌, ◌≤◌, ℕ, zero, suc, ◌+◌, ◌-◌, ◌*◌, ◌/◌, ◌^◌, Bool, true, false, List, ◌++◌, ◌∷◌, [], length}
-use Rattle.std.specs.Prelude.{take, drop}
+use Rattle.std.specs.Prelude.{◌≡◌, ◌⊎◌, ◌<◌, ◌≤◌, ℕ, zero, suc, ◌+◌, ◌-◌, ◌*◌, ◌/◌, ◌^◌, Bool, true, false, List, ◌++◌, ◌∷◌, [], length, take, drop}
 use Rattle.verity_plan.specs.{Plans.{IsPlan, PlanFields}, PlanCounts.level_count_of, Settings.{TreeSettingsFields, fan}}
 use Rattle.verity_blocks.specs.{ClosingOrder.{BlockIndex, block_index, blocks_before, closed_after, handed_out}, Levels.{cut, data_blocks}}
-use Rattle.verity_blocks.specs.Steps.{OpenBlocks.{HasClosed, HasOpenBlocks, level_digest}, Batches.IsBatch}
-use Rattle.verity_blocks.specs.{Windows.{window_blocks, window_length}, declared.window.WindowPlace.WindowPlace}
+use Rattle.verity_blocks.specs.{Steps.{OpenBlocks.{HasClosed, HasOpenBlocks, level_digest}, Batches.IsBatch}, Windows.{window_blocks, window_length}}
+use Rattle.verity_blocks.specs.declared.window.WindowPlace.{WindowPlace}
 
 -- the first n data blocks of some bytes
 abbrev pub first_blocks : TreeSettingsFields → ℕ → List ℕ → List (List ℕ)

@@ -1,7 +1,6 @@
 -- The open blocks of a tree, to which digests come, and which close.
 -- For the crates that make trees; not needed to read a contract of `verity_tree`.
-use Rattle.std.specs.Prelude.{◌≡◌, ℕ, ◌+◌, ◌*◌, ◌/◌, ◌%◌, ◌^◌, ◌<◌, ◌≤◌, List, [], take, drop, length, map, slice_index_or, Bool, true}
-use Rattle.std.specs.Prelude.{false}
+use Rattle.std.specs.Prelude.{◌≡◌, ℕ, ◌+◌, ◌*◌, ◌/◌, ◌%◌, ◌^◌, ◌<◌, ◌≤◌, List, [], take, drop, length, map, slice_index_or, Bool, true, false}
 use Rattle.{std.specs.Fork.slice_chunk, verity_plan.specs.Settings.{TreeSettingsFields, hash, fan}}
 use Rattle.verity_blocks.specs.{Levels.{hash_block_of, blocks_up}, TreeOnDevice.tree_block}
 

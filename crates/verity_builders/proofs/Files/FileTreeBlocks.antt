@@ -1,14 +1,14 @@
 -- Hash blocks that close while nobody knows a file's length are those of every file that goes on.
-use Rattle.std.proofs.Common.{◌≡◌, ℕ, zero, suc, ◌+◌, ◌-◌, ◌*◌, ◌/◌, ◌%◌, ◌^◌, ◌<◌, ◌≤◌, Bool, true, false, eqb, ◌||◌, List, [], ◌∷◌, ◌++◌}
-use Rattle.std.proofs.{Common.{get_or, length, take, map, arith, refl, sym, ◌∙◌, ap, inl, inr}, lemmas.Bool.{cases_lt, Decides.nat_tests}}
-use Rattle.std.{proofs.{lemmas.List.get_or-take, Math.Nat.{mod-eq_of_lt, pow-le-pow_right, zero-div}}, specs.List.{filter, range_with_len}}
+use Rattle.std.proofs.Common.{◌≡◌, ℕ, zero, suc, ◌+◌, ◌-◌, ◌*◌, ◌/◌, ◌%◌, ◌^◌, ◌<◌, ◌≤◌, Bool, true, false, eqb, ◌||◌, List, [], ◌∷◌, ◌++◌, get_or}
+use Rattle.std.proofs.{Common.{length, take, map, arith, refl, sym, ◌∙◌, ap, inl, inr}, lemmas.{Bool.{cases_lt, Decides.nat_tests}, List.get_or-take}}
+use Rattle.std.{proofs.Math.Nat.{mod-eq_of_lt, pow-le-pow_right, zero-div}, specs.List.{filter, range_with_len}}
 use Rattle.verity_plan.specs.{Plans.{block_count, level_count, plan_of_file}, Settings.{IsValid, TreeSettingsFields, fan}}
 use Rattle.verity_plan.proofs.{CountLemmas.{IsLevelCount-level_count, le-div_ceil, mul_le}, FanLemmas.{fan-some, fan-two, some_data}}
-use Rattle.{verity_plan.proofs.IndexLemmas.quotient-below, verity_blocks.specs.{ClosingOrder.handed_out, Levels.{blocks_up, data_blocks}}}
-use Rattle.verity_blocks.specs.ClosingOrder.{BlockIndex, block_index, blocks_before, closed_after, closes, closing_with, first_closing}
-use Rattle.verity_blocks.{specs.Steps.Feeding.{IsHandingOut, Stands, first_blocks, windows_before}, proofs.Levels.CutBlocks.length-cut}
-use Rattle.verity_blocks.specs.{Steps.OpenBlocks.{IsReached, digests_under, open_block}, Windows.window_length, TreeOnDevice.tree_block}
-use Rattle.verity_blocks.proofs.{Windows.LastByte.whole-block, Levels.FirstBlocks.{blocks_up-front, open-same, plan-front}}
+use Rattle.{verity_plan.proofs.IndexLemmas.quotient-below, verity_blocks.{specs.TreeOnDevice.tree_block, proofs.Windows.LastByte.whole-block}}
+use Rattle.verity_blocks.specs.ClosingOrder.{handed_out, BlockIndex, block_index, blocks_before, closed_after, closes, closing_with, first_closing}
+use Rattle.verity_blocks.specs.{Levels.{blocks_up, data_blocks}, Steps.Feeding.{IsHandingOut, Stands, first_blocks, windows_before}}
+use Rattle.verity_blocks.{proofs.Levels.CutBlocks.length-cut, specs.{Steps.OpenBlocks.{IsReached, digests_under, open_block}, Windows.window_length}}
+use Rattle.verity_blocks.proofs.Levels.FirstBlocks.{blocks_up-front, open-same, plan-front}
 
 -- two tests that are one where both ranges go, and that nothing passes in the longer one's rest, leave the same
 filter-same : (c d : ℕ → Bool) (a m n : ℕ) → ((l : ℕ) → a ≤ l → l < a + m → l < a + n → c l ≡ d l)

@@ -1,16 +1,15 @@
 -- Hash blocks of a file that are handed out, joined over all calls with those that are left, are those that building writes.
-use Rattle.std.proofs.Common.{◌≡◌, ℕ, zero, suc, ◌+◌, ◌/◌, ◌^◌, ◌<◌, ◌≤◌, List, [], ◌∷◌, ◌++◌, length, map, take, drop, Option, Some, None}
-use Rattle.std.proofs.{Common.{arith, refl, sym, ◌∙◌, ap, inl, inr, append_assoc, length-append}, lemmas.{Bool.cases_lt, List.append-nil}}
+use Rattle.std.proofs.Common.{◌≡◌, ℕ, zero, suc, ◌+◌, ◌/◌, ◌^◌, ◌<◌, ◌≤◌, List, [], ◌∷◌, ◌++◌, length, map, take, drop, Option, Some, None, arith}
+use Rattle.std.proofs.{Common.{refl, sym, ◌∙◌, ap, inl, inr, append_assoc, length-append}, lemmas.{Bool.cases_lt, List.append-nil}}
 use Rattle.{std.{proofs.lemmas.List.FromFn.length-map-range_with_len, specs.List.{flat_map, range_with_len}}, verity_io.specs.Writing.put}
-use Rattle.verity_plan.specs.Plans.{IsPlan, PlanFields, plan_of_file, start_byte, start_byte_of}
-use Rattle.verity_plan.specs.{PlanCounts.{level_count_of, most_level_count}, Settings.{TreeSettingsFields, fan}}
-use Rattle.verity_blocks.specs.ClosingOrder.{BlockIndex, block_index, blocks_before, closed_after, first_closing, handed_out}
-use Rattle.verity_blocks.{specs.{Levels.data_blocks, TreeOnDevice.tree_block, TreeWriting.device_with}, proofs.Levels.CutBlocks.length-cut}
+use Rattle.verity_plan.specs.{Plans.{IsPlan, PlanFields, plan_of_file, start_byte, start_byte_of}, PlanCounts.{level_count_of, most_level_count}}
+use Rattle.verity_plan.specs.Settings.{TreeSettingsFields, fan}
+use Rattle.verity_blocks.specs.{ClosingOrder.{BlockIndex, block_index, blocks_before, closed_after, first_closing, handed_out}, Levels.data_blocks}
+use Rattle.verity_blocks.{specs.{TreeOnDevice.tree_block, TreeWriting.device_with}, proofs.Levels.CutBlocks.length-cut}
 use Rattle.verity_blocks.proofs.Order.{HandedOut.{all-handed-out, first-closed, none-handed-out}, ClosingInTurn.device_with-append}
-use Rattle.verity_builders.specs.FileTrees.{AreLastBlocks, BuildsFileTree, FileTreeCall, IsAfterTreeCalls, IsFedFileTree, IsFinal, asks}
-use Rattle.verity_builders.specs.FileTrees.{block_handed, feeds, file_blocks, file_of_calls, given_of_file, end_index, put_all_handed}
-use Rattle.verity_builders.specs.{FileTrees.{put_handed, put_last}, declared.file_tree_builder.FileHashBlock.FileHashBlock}
-use Rattle.verity_builders.specs.declared.file_tree_builder.FileTreeBuilder.{FileTreeBuilder}
+use Rattle.verity_builders.specs.FileTrees.{AreLastBlocks, BuildsFileTree, FileTreeCall, IsAfterTreeCalls, IsFedFileTree, IsFinal, asks, block_handed}
+use Rattle.verity_builders.specs.FileTrees.{feeds, file_blocks, file_of_calls, given_of_file, end_index, put_all_handed, put_handed, put_last}
+use Rattle.verity_builders.specs.declared.file_tree_builder.{FileHashBlock.FileHashBlock, FileTreeBuilder.FileTreeBuilder}
 
 -- calls are made one after another
 pub record AreTreeCalled (s : TreeSettingsFields) (calls : List FileTreeCall) (b after : FileTreeBuilder)

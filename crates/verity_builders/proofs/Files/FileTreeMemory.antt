@@ -1,12 +1,11 @@
 -- The memory of a builder of a file's tree between two calls, and what it hands out.
-use Rattle.std.proofs.Common.{◌≡◌, ℕ, zero, suc, ◌+◌, ◌-◌, ◌*◌, ◌<◌, ◌≤◌, Bool, true, false, List, [], ◌++◌, length, take, drop, Some, None}
-use Rattle.std.proofs.{Common.{arith, refl, sym, ◌∙◌, ap, length-append}, lemmas.List.append-nil}
+use Rattle.std.proofs.Common.{◌≡◌, ℕ, zero, suc, ◌+◌, ◌-◌, ◌*◌, ◌<◌, ◌≤◌, Bool, true, false, List, [], ◌++◌, length, take, drop, Some, None, arith}
+use Rattle.{std.proofs.{Common.{refl, sym, ◌∙◌, ap, length-append}, lemmas.List.append-nil}, verity_blocks.proofs.Order.HandedOut.handed-out-stays}
 use Rattle.verity_plan.specs.{Plans.plan_of_file, PlanCounts.most_level_count, Settings.{IsValid, TreeSettingsFields}}
 use Rattle.verity_blocks.specs.{ClosingOrder.{BlockIndex, handed_out}, Steps.Feeding.{FeedsOn, IsHandingOut, Stands}}
-use Rattle.{verity_blocks.proofs.Order.HandedOut.handed-out-stays, verity_builders.proofs.Trees.TreeMemory.{open_block-within, joined}}
-use Rattle.verity_builders.specs.{Feeding.{IsFedFile, open_blocks}, FileTrees.{FeedsFile, IsFedFileTree, IsFinal, IsPlacedInFile}}
+use Rattle.verity_builders.{specs.FileTrees.{FeedsFile, IsFedFileTree, IsFinal, IsPlacedInFile}, proofs.Trees.TreeMemory.{open_block-within, joined}}
 use Rattle.verity_builders.specs.declared.file_tree_builder.{FileHashBlock.FileHashBlock, FileTreeBuilder.FileTreeBuilder}
-use Rattle.verity_builders.proofs.Files.FileTreeBlocks.{Stands-moves, handed_out-same, handing-moves}
+use Rattle.verity_builders.{proofs.Files.FileTreeBlocks.{Stands-moves, handed_out-same, handing-moves}, specs.Feeding.{IsFedFile, open_blocks}}
 
 -- when no hash block waits, the bytes were fed to a builder that gives the root hash alone
 pub file-of_tree : (b : FileTreeBuilder) (memory fed : List ℕ) → b.closed ≡ 0 → IsFedFileTree b memory fed

@@ -1,9 +1,9 @@
 -- A file that isn't too large for any tree.
 use Rattle.std.{proofs.Common.{◌≡◌, ◌∙◌, ℕ, ◌+◌, ◌-◌, ◌*◌, ◌<◌, ◌≤◌, true, false, arith, ap, refl}, specs.Prelude.{Ok, nat_eq, nat_le}}
-use Rattle.std.proofs.{Math.Nat.{mul-le-mul, mul-le-mul_left, mul-le-mul_right}, lemmas.Bool.Decides.nat_tests}
-use Rattle.{verity_io.specs.Writing.most_bytes, verity_plan.proofs.{PlaceLemmas.blocks_from-most, PlanLemmas.level_count-few}}
+use Rattle.{std.proofs.{Math.Nat.{mul-le-mul, mul-le-mul_left, mul-le-mul_right}, lemmas.Bool.Decides.nat_tests}, verity_io.specs.Writing.most_bytes}
+use Rattle.verity_plan.{proofs.{PlaceLemmas.blocks_from-most, PlanLemmas.level_count-few}, specs.Settings.{IsValid, TreeSettingsFields, fan}}
 use Rattle.verity_plan.specs.Plans.{block_count, blocks_from, end_place, level_count, plan_for_bytes, plan_of_file}
-use Rattle.verity_plan.{specs.Settings.{IsValid, TreeSettingsFields, fan}, proofs.CountLemmas.{div_ceil-pos, mul-lt_div_ceil}}
+use Rattle.verity_plan.proofs.CountLemmas.{div_ceil-pos, mul-lt_div_ceil}
 use Rattle.verity_plan.proofs.FanLemmas.{data_most, digest_len_of-least, fan-some, fan-two, hash_most, some_data, two_digests}
 
 -- a file of up to 2 ^ 41 bytes has a plan

@@ -1,13 +1,12 @@
 -- The digests of the parts come one after another to the open blocks of the join, and its hash blocks close.
-use Rattle.std.proofs.Common.{◌≡◌, ℕ, zero, suc, ◌+◌, ◌-◌, ◌*◌, ◌/◌, ◌%◌, ◌^◌, ◌<◌, ◌≤◌, Bool, true, false, List, ◌++◌, length, take, drop}
-use Rattle.std.proofs.{Common.{arith, refl, sym, ◌∙◌, ap, inl, inr, append_assoc}, lemmas.Bool.cases_lt}
-use Rattle.std.proofs.lemmas.{List.{append-nil, drop-take, length-take, length-take-le, take-take}, Nat.{div-add-mod', le-div, mod-mul-add}}
-use Rattle.std.proofs.Math.Nat.{div-mul-le_self, mul-div_cancel, pow-zero, zero-mod}
-use Rattle.verity_plan.specs.{Plans.level_count, Settings.{TreeSettingsFields, digest_len, fan}}
-use Rattle.verity_plan.proofs.{CountLemmas.{IsLevelCount-level_count, mul_le}, FanLemmas.{digest_len_of-pos, fan-some}}
-use Rattle.verity_blocks.specs.ClosingOrder.{BlockIndex, closed_after, first_closing}
-use Rattle.verity_blocks.specs.Steps.OpenBlocks.{Adds, HasClosed, HasOpenBlocks, IsReached, level_digest}
-use Rattle.verity_blocks.proofs.{OpenBlocks.{ClosingBlocks.reached-down, Reached.IsReached-zero}, Levels.CutBlocks.run-of_front}
+use Rattle.std.proofs.Common.{◌≡◌, ℕ, zero, suc, ◌+◌, ◌-◌, ◌*◌, ◌/◌, ◌%◌, ◌^◌, ◌<◌, ◌≤◌, Bool, true, false, List, ◌++◌, length, take, drop, arith}
+use Rattle.std.proofs.{Common.{refl, sym, ◌∙◌, ap, inl, inr, append_assoc}, lemmas.{Bool.cases_lt, Nat.{div-add-mod', le-div, mod-mul-add}}}
+use Rattle.std.proofs.lemmas.List.{append-nil, drop-take, length-take, length-take-le, take-take}
+use Rattle.{std.proofs.Math.Nat.{div-mul-le_self, mul-div_cancel, pow-zero, zero-mod}, verity_blocks.proofs.Levels.CutBlocks.run-of_front}
+use Rattle.verity_plan.{specs.{Plans.level_count, Settings.{TreeSettingsFields, digest_len, fan}}, proofs.FanLemmas.{digest_len_of-pos, fan-some}}
+use Rattle.verity_plan.proofs.CountLemmas.{IsLevelCount-level_count, mul_le}
+use Rattle.verity_blocks.{specs.ClosingOrder.{BlockIndex, closed_after, first_closing}, proofs.OpenBlocks.ClosingBlocks.reached-down}
+use Rattle.verity_blocks.{specs.Steps.OpenBlocks.{Adds, HasClosed, HasOpenBlocks, IsReached, level_digest}, proofs.OpenBlocks.Reached.IsReached-zero}
 use Rattle.verity_blocks.proofs.Order.ClosingInTurn.{closed_after-more, closes-none, closes-reached, closing-prefix, first_closing-more}
 use Rattle.verity_builders.specs.Steps.Parts.{ClosesAbove, HandsAbove, HasDigests, JoinStands, JoinTakesMore, JoinsOn, handed_out_above}
 

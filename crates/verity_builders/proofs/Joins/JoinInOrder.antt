@@ -1,14 +1,14 @@
 -- The hash blocks of the join, in closing order, are those of a tree of its own above as many data blocks as a level
 -- has parts.
-use Rattle.std.proofs.Common.{◌≡◌, ℕ, zero, suc, ◌+◌, ◌-◌, ◌*◌, ◌/◌, ◌%◌, ◌^◌, ◌<◌, ◌≤◌, Bool, true, false, List, [], ◌∷◌, ◌++◌, cond, map}
-use Rattle.std.proofs.{Common.{leb, arith, sym, ◌∙◌, ap, refl}, lemmas.{Bool.Decides.nat_tests, List.{append-nil, map-append}}}
-use Rattle.std.proofs.lemmas.{List.Elements.filter-append, Nat.{div-add-mod', div-mul-add, mod-mul-add, mod_below, pow-add}, Simd.map-map}
-use Rattle.std.{proofs.Math.Nat.{div-div-eq-div-mul, one-le-pow}, specs.{Int.div_ceil, List.{filter, range_with_len}, Prelude.nat_le}}
+use Rattle.std.proofs.Common.{◌≡◌, ℕ, zero, suc, ◌+◌, ◌-◌, ◌*◌, ◌/◌, ◌%◌, ◌^◌, ◌<◌, ◌≤◌, Bool, true, false, List, [], ◌∷◌, ◌++◌, cond, map, leb}
+use Rattle.std.proofs.{Common.{arith, sym, ◌∙◌, ap, refl}, lemmas.{Bool.Decides.nat_tests, List.{append-nil, map-append, Elements.filter-append}}}
+use Rattle.std.{proofs.lemmas.{Nat.{div-add-mod', div-mul-add, mod-mul-add, mod_below, pow-add}, Simd.map-map}, specs.{Int.div_ceil, Prelude.nat_le}}
+use Rattle.std.{proofs.Math.Nat.{div-div-eq-div-mul, one-le-pow}, specs.List.{filter, range_with_len}}
 use Rattle.verity_plan.specs.{Plans.{PlanFields, level_count}, PlanCounts.{level_count_of, count_under}, Settings.fan}
-use Rattle.{verity_plan.proofs.CountLemmas.{mul_le, mul-lt_div_ceil}, verity_builders.proofs.Joins.PlanOfJoin.level_count-above}
+use Rattle.{verity_plan.proofs.CountLemmas.{mul_le, mul-lt_div_ceil}, verity_builders.specs.Steps.Parts.handed_out_above}
+use Rattle.verity_builders.{proofs.Joins.PlanOfJoin.level_count-above, specs.Parts.{closed_in_join, handed_out_of_join}}
 use Rattle.verity_blocks.specs.ClosingOrder.{BlockIndex, block_index, closed_after, closes, closing_with, first_closing}
 use Rattle.verity_blocks.proofs.Order.ClosingInTurn.{closed_after-more, passing, passing-none}
-use Rattle.verity_builders.specs.{Parts.{closed_in_join, handed_out_of_join}, Steps.Parts.handed_out_above}
 
 -- a hash block of the join's own tree, as one of the whole
 abbrev pub raised : ℕ → BlockIndex → BlockIndex

@@ -1,15 +1,14 @@
 -- The memory of a join between two calls: its open blocks, and the digest that came last.
-use Rattle.std.proofs.Common.{◌≡◌, ℕ, ◌+◌, ◌-◌, ◌*◌, ◌/◌, ◌^◌, ◌<◌, ◌≤◌, List, [], ◌∷◌, ◌++◌, get_or, length, take, drop, arith, refl, sym}
-use Rattle.std.proofs.{Common.{◌∙◌, ap, map, Bool, true, false, Some, None, length-drop}, lemmas.List.{append-nil, map-append, take_all}}
-use Rattle.{std.proofs.Math.Nat.div-eq_of_lt, verity_blocks.specs.{Steps.OpenBlocks.{HasClosed, level_digest}, TreeOnDevice.tree_block}}
+use Rattle.std.proofs.Common.{◌≡◌, ℕ, ◌+◌, ◌-◌, ◌*◌, ◌/◌, ◌^◌, ◌<◌, ◌≤◌, List, [], ◌∷◌, ◌++◌, get_or, length, take, drop, arith, refl, sym, ◌∙◌, ap}
+use Rattle.std.proofs.{Common.{map, Bool, true, false, Some, None, length-drop}, lemmas.List.{append-nil, map-append, take_all}}
+use Rattle.{std.proofs.Math.Nat.div-eq_of_lt, verity_blocks.proofs.OpenBlocks.DigestsInTurn.{range-is_run, index-first}}
+use Rattle.verity_blocks.specs.{Steps.OpenBlocks.{HasClosed, level_digest}, TreeOnDevice.tree_block, ClosingOrder.{BlockIndex, block_index}}
+use Rattle.verity_blocks.specs.{Levels.{blocks_up, data_blocks, height, root}, declared.hash_block.HashBlock.HashBlock}
+use Rattle.verity_blocks.proofs.{ClosingSteps.Climbing.blocks-most, Levels.{CutBlocks.length-cut, LevelCounts.height-level_count}}
 use Rattle.verity_plan.specs.{Plans.{IsPlan, PlanFields, level_count}, PlanCounts.{level_count_of, count_under}}
 use Rattle.verity_plan.{specs.Settings.{TreeSettingsFields, fan, hash}, proofs.FanLemmas.{fan-some, fan-two}}
-use Rattle.verity_blocks.specs.{ClosingOrder.{BlockIndex, block_index}, Levels.{blocks_up, data_blocks, height, root}}
-use Rattle.verity_blocks.{specs.declared.hash_block.HashBlock.HashBlock, proofs.ClosingSteps.Climbing.blocks-most}
-use Rattle.{verity_blocks.proofs.Levels.{CutBlocks.length-cut, LevelCounts.height-level_count}, verity_builders.specs.Feeding.open_blocks}
-use Rattle.verity_blocks.proofs.OpenBlocks.DigestsInTurn.{range-is_run, index-first}
+use Rattle.verity_builders.specs.{Feeding.open_blocks, Steps.Parts.{HasDigests, JoinStands, JoinsOn, handed_out_above, plan_of_join}}
 use Rattle.verity_builders.specs.Parts.{AreDigests, IsHandedOutOfJoin, IsJoined, IsPlacedOfJoin, Joins, blocks_under, handed_out_of_join}
-use Rattle.verity_builders.specs.Steps.Parts.{HasDigests, JoinStands, JoinsOn, handed_out_above, plan_of_join}
 use Rattle.verity_builders.{specs.declared.join_builder.JoinBuilder.JoinBuilder, proofs.Trees.TreeMemory.{open_block-within, joined}}
 use Rattle.verity_builders.proofs.Joins.{JoinDigests.JoinStands-closed, JoinInOrder.{handed-out-raised, raised}}
 use Rattle.verity_builders.proofs.Joins.PlanOfJoin.{IsPlan-join, blocks_up-up, length-under, levels-of_join, parts-some}

@@ -1,13 +1,12 @@
 -- The tree above the parts of a level is the levels from that one on of the whole tree.
-use Rattle.std.proofs.Common.{◌≡◌, ℕ, zero, suc, ◌+◌, ◌-◌, ◌*◌, ◌^◌, ◌<◌, ◌≤◌, List, length, arith, sym, ◌∙◌, ap, inl, inr, refl, true}
-use Rattle.std.proofs.{Common.false, lemmas.{Bool.{cases_lt, Decides.nat_tests}, Nat.pow-add}, Math.Nat.{mul-le-mul_left, one-le-pow}}
-use Rattle.{std.specs.{Int.div_ceil, Prelude.{Ok, Result, nat_eq, nat_le}}, verity_io.specs.Writing.most_bytes}
+use Rattle.std.proofs.Common.{◌≡◌, ℕ, zero, suc, ◌+◌, ◌-◌, ◌*◌, ◌^◌, ◌<◌, ◌≤◌, List, length, arith, sym, ◌∙◌, ap, inl, inr, refl, true, false}
+use Rattle.std.{proofs.{lemmas.{Bool.{cases_lt, Decides.nat_tests}, Nat.pow-add}, Math.Nat.{mul-le-mul_left, one-le-pow}}, specs.Int.div_ceil}
+use Rattle.{std.specs.Prelude.{Ok, Result, nat_eq, nat_le}, verity_io.specs.Writing.most_bytes}
 use Rattle.verity_plan.specs.Plans.{IsPlan, PlanFields, blocks_from, end_place_of, level_count, level_size, plan_for_blocks}
-use Rattle.verity_plan.specs.{PlanCounts.{level_count_of, count_under}, Settings.{TreeSettingsFields, fan}}
-use Rattle.{verity_plan.specs.declared.plan_fault.PlanFault.PlanFault, verity_builders.specs.{Parts.blocks_under, Steps.Parts.plan_of_join}}
-use Rattle.verity_plan.proofs.CountLemmas.{IsLevelCount-level_count, IsLevelCount-same, div_ceil-div_ceil, div_ceil-le, div_ceil-mul}
-use Rattle.verity_plan.proofs.{CountLemmas.{div_ceil-pos, le-div_ceil, mul_le}, FanLemmas.{fan-some, fan-two, some_data}}
-use Rattle.verity_plan.proofs.{PlaceLemmas.{blocks_from-le, blocks_from-suc}, PlanLemmas.blocks-some}
+use Rattle.verity_plan.specs.{PlanCounts.{level_count_of, count_under}, Settings.{TreeSettingsFields, fan}, declared.plan_fault.PlanFault.PlanFault}
+use Rattle.verity_plan.proofs.CountLemmas.{IsLevelCount-level_count, IsLevelCount-same, div_ceil-div_ceil, div_ceil-le, div_ceil-mul, div_ceil-pos}
+use Rattle.verity_plan.proofs.{CountLemmas.{le-div_ceil, mul_le}, FanLemmas.{fan-some, fan-two, some_data}, PlanLemmas.blocks-some}
+use Rattle.{verity_plan.proofs.PlaceLemmas.{blocks_from-le, blocks_from-suc}, verity_builders.specs.{Parts.blocks_under, Steps.Parts.plan_of_join}}
 use Rattle.verity_blocks.{specs.Levels.{blocks_up, data_blocks, up}, proofs.Levels.{CutBlocks.length-cut, LevelCounts.length-blocks_up}}
 
 -- levels above a level are levels above the blocks below it

@@ -1,17 +1,15 @@
 -- What a part and a join have handed out at their beginnings and ends.
-use Rattle.std.proofs.Common.{◌≡◌, ℕ, zero, suc, ◌+◌, ◌-◌, ◌*◌, ◌/◌, ◌%◌, ◌^◌, ◌<◌, ◌≤◌, ◌⊎◌, min, Bool, true, false, List, [], ◌∷◌, ◌++◌}
-use Rattle.std.proofs.{Common.{map, arith, refl, sym, ◌∙◌, ap, inl, inr}, lemmas.Bool.{cases_Bool, cases_lt, Decides.nat_tests}}
-use Rattle.std.proofs.lemmas.{List.{append-nil, Elements.filter-append}, Nat.{div-add-mod', mod-mul-add, pow-add}}
-use Rattle.std.proofs.lemmas.List.FromFn.{fill_by_all, get_or-map-range_with_len, length-map-range_with_len}
-use Rattle.std.{proofs.Math.Nat.{div-div-eq-div-mul, div-mul-le_self, mul_assoc, one-le-pow, zero-div}, specs.Int.div_ceil}
-use Rattle.{std.specs.{List.{filter, range_with_len}, Prelude.{◌&&◌, nat_le}}, verity_plan.proofs.FanLemmas.{fan-some, some_data}}
-use Rattle.verity_plan.specs.{Plans.{IsPlan, PlanFields, level_count}, PlanCounts.{level_count_of, count_under}, Settings.fan}
-use Rattle.verity_plan.proofs.CountLemmas.{div_ceil-below, div_ceil-pos, le-div_ceil, mul-lt_div_ceil, mul_le}
+use Rattle.std.proofs.Common.{◌≡◌, ℕ, zero, suc, ◌+◌, ◌-◌, ◌*◌, ◌/◌, ◌%◌, ◌^◌, ◌<◌, ◌≤◌, ◌⊎◌, min, Bool, true, false, List, [], ◌∷◌, ◌++◌, map, arith}
+use Rattle.std.{proofs.lemmas.{List.Elements.filter-append, Nat.{div-add-mod', mod-mul-add, pow-add}}, specs.{Int.div_ceil, Prelude.{◌&&◌, nat_le}}}
+use Rattle.std.{proofs.lemmas.List.FromFn.{fill_by_all, get_or-map-range_with_len, length-map-range_with_len}, specs.List.{filter, range_with_len}}
+use Rattle.std.proofs.{Math.Nat.{div-div-eq-div-mul, div-mul-le_self, mul_assoc, one-le-pow, zero-div}, Common.{refl, sym, ◌∙◌, ap, inl, inr}}
+use Rattle.verity_plan.{proofs.FanLemmas.{fan-some, some_data}, specs.{Plans.{IsPlan, PlanFields, level_count}, Settings.fan}}
+use Rattle.{verity_plan.specs.PlanCounts.{level_count_of, count_under}, std.proofs.lemmas.Bool.{cases_Bool, cases_lt, Decides.nat_tests}}
+use Rattle.{verity_plan.proofs.CountLemmas.{div_ceil-below, div_ceil-pos, le-div_ceil, mul-lt_div_ceil, mul_le}, std.proofs.lemmas.List.append-nil}
 use Rattle.verity_blocks.specs.ClosingOrder.{BlockIndex, block_index, blocks_before, closed_after, closes, closing_with, first_closing}
 use Rattle.verity_blocks.proofs.Order.ClosingInTurn.{closed_after-more, closes-last, filter-front}
-use Rattle.verity_builders.specs.Parts.{HasPart, closed_in_join, closed_in_part, first_block, handed_out_of_join, handed_out_of_part}
-use Rattle.verity_builders.{specs.Parts.{join_order, part_order, blocks_in_part, plan_of_part}, proofs.Parts.PartLevels.div_ceil-chunk}
-use Rattle.verity_builders.proofs.Parts.PartsInOrder.{is_below}
+use Rattle.verity_builders.specs.Parts.{HasPart, closed_in_join, closed_in_part, first_block, handed_out_of_join, handed_out_of_part, join_order}
+use Rattle.verity_builders.{specs.Parts.{part_order, blocks_in_part, plan_of_part}, proofs.Parts.{PartLevels.div_ceil-chunk, PartsInOrder.is_below}}
 
 -- ---- tests of levels
 

@@ -1,13 +1,12 @@
 -- The closing order of a part's own tree, in the whole tree.
-use Rattle.std.proofs.Common.{◌≡◌, ℕ, zero, suc, ◌+◌, ◌-◌, ◌*◌, ◌/◌, ◌%◌, ◌^◌, ◌<◌, ◌≤◌, Bool, true, false, List, ◌∷◌, ◌++◌, map, arith}
-use Rattle.std.proofs.{Common.{refl, sym, ◌∙◌, ap, cond, inl, inr}, lemmas.{Bool.{cases_lt, Decides.nat_tests}, List.map-append}}
-use Rattle.std.{proofs.lemmas.{Nat.pow-add, Simd.map-map}, specs.{List.{filter, range_with_len}, Prelude.{nat_eq, nat_lt}}}
+use Rattle.std.proofs.Common.{◌≡◌, ℕ, zero, suc, ◌+◌, ◌-◌, ◌*◌, ◌/◌, ◌%◌, ◌^◌, ◌<◌, ◌≤◌, Bool, true, false, List, ◌∷◌, ◌++◌, map, arith, refl, sym}
+use Rattle.std.proofs.{Common.{◌∙◌, ap, cond, inl, inr}, lemmas.{Bool.{cases_lt, Decides.nat_tests}, List.map-append, Nat.pow-add, Simd.map-map}}
+use Rattle.{std.specs.{List.{filter, range_with_len}, Prelude.{nat_eq, nat_lt}}, verity_plan.proofs.FanLemmas.{fan-some, fan-two}}
 use Rattle.std.proofs.Math.Nat.{add-mul-div_right, mod-eq_of_lt, mul-add-mod_self_right, one-le-pow, pow-le-pow_right, zero-div}
 use Rattle.verity_plan.{specs.{Plans.{IsPlan, PlanFields, level_count}, Settings.fan}, proofs.CountLemmas.IsLevelCount-level_count}
-use Rattle.{verity_plan.proofs.FanLemmas.{fan-some, fan-two}, verity_builders.proofs.Parts.PlanOfPart.has-part}
-use Rattle.verity_blocks.specs.ClosingOrder.{BlockIndex, block_index, blocks_before, closed_after, closes, closing_with, first_closing}
-use Rattle.verity_blocks.{specs.ClosingOrder.handed_out, proofs.{Windows.LastByte.last-below, Order.ClosingInTurn.{passing, passing-none}}}
-use Rattle.verity_builders.specs.Parts.{HasPart, closed_in_part, first_block, handed_out_of_part, plan_of_part}
+use Rattle.verity_builders.{proofs.Parts.PlanOfPart.has-part, specs.Parts.{HasPart, closed_in_part, first_block, handed_out_of_part, plan_of_part}}
+use Rattle.verity_blocks.specs.ClosingOrder.{BlockIndex, block_index, blocks_before, closed_after, closes, closing_with, first_closing, handed_out}
+use Rattle.verity_blocks.proofs.{Windows.LastByte.last-below, Order.ClosingInTurn.{passing, passing-none}}
 
 -- a hash block of a part's own tree, in the whole tree
 abbrev pub in_whole : ℕ → ℕ → ℕ → BlockIndex → BlockIndex

@@ -1,12 +1,11 @@
 -- The levels above a part's data are parts of the levels of the whole tree.
-use Rattle.std.proofs.Common.{◌≡◌, ℕ, zero, suc, ◌+◌, ◌-◌, ◌*◌, ◌^◌, ◌<◌, ◌≤◌, min, List, [], get_or, length, map, take, drop, arith, sym}
-use Rattle.{std.proofs.{Common.{◌∙◌, ap, inl, inr, length-drop}, lemmas.Bool.cases_lt}, verity_hash.specs.Hashing.with_zeros}
+use Rattle.std.proofs.Common.{◌≡◌, ℕ, zero, suc, ◌+◌, ◌-◌, ◌*◌, ◌^◌, ◌<◌, ◌≤◌, min, List, [], get_or, length, map, take, drop, arith, sym, ◌∙◌, ap}
+use Rattle.std.proofs.{Common.{inl, inr, length-drop}, lemmas.{Bool.cases_lt, List.FromFn.get_or-map-range_with_len}, Math.Nat.{pow-suc, pow-zero}}
 use Rattle.std.proofs.lemmas.List.{drop-drop, drop-map, ext_get_or, get_or-drop, get_or-take, length-take, take-map, take-take, take_all}
-use Rattle.std.{proofs.{lemmas.List.FromFn.get_or-map-range_with_len, Math.Nat.{pow-suc, pow-zero}}, specs.{Fork.slice_chunk, Int.div_ceil}}
-use Rattle.verity_plan.specs.{Plans.{IsPlan, PlanFields}, Settings.{TreeSettingsFields, fan, hash}}
-use Rattle.verity_plan.proofs.{CountLemmas.{div_ceil-le, le-div_ceil, mul_le}, FanLemmas.fan-some}
-use Rattle.verity_blocks.specs.Levels.{block_at, blocks_up, cut, data_blocks, hash_block_of, pack}
-use Rattle.verity_blocks.proofs.Levels.{CutBlocks.{get_or-pack, length-cut, run-of_front}, LevelCounts.length-pack}
+use Rattle.verity_plan.{specs.{Plans.{IsPlan, PlanFields}, Settings.{TreeSettingsFields, fan, hash}}, proofs.FanLemmas.fan-some}
+use Rattle.{verity_plan.proofs.CountLemmas.{div_ceil-le, le-div_ceil, mul_le}, std.specs.{Fork.slice_chunk, Int.div_ceil}}
+use Rattle.verity_blocks.{specs.Levels.{block_at, blocks_up, cut, data_blocks, hash_block_of, pack}, proofs.Levels.LevelCounts.length-pack}
+use Rattle.{verity_blocks.proofs.Levels.CutBlocks.{get_or-pack, length-cut, run-of_front}, verity_hash.specs.Hashing.with_zeros}
 use Rattle.verity_builders.specs.Parts.{HasPart, bytes_of_part, digest_of_part, blocks_in_part, plan_of_part}
 
 -- a run of a run

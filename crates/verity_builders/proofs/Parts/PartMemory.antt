@@ -1,17 +1,16 @@
 -- A builder of a part between two calls: its memory, how many levels have closed, what it hands out, and its digest.
-use Rattle.std.proofs.Common.{◌≡◌, ℕ, ◌+◌, ◌-◌, ◌*◌, ◌/◌, ◌^◌, ◌<◌, ◌≤◌, false, List, [], ◌∷◌, ◌++◌, get_or, arith, drop, length}
-use Rattle.std.proofs.{Common.{length-append, length-drop, map, refl, sym, take, ◌∙◌, ap, Some, None}, lemmas.Bool.Decides.nat_tests}
-use Rattle.{std.proofs.{lemmas.{List.{length-take, map-append}, Nat.div_below}, Math.Nat.one-le-pow}, verity_plan.proofs.FanLemmas.fan-some}
-use Rattle.std.specs.Prelude.{Err, IfOk, MatchOption, Ok, Option, Result, nat_le, nat_lt}
-use Rattle.verity_plan.specs.{Plans.{IsPlan, PlanFields}, PlanCounts.{level_count_of, count_under}, Settings.{fan, hash}}
+use Rattle.std.proofs.Common.{◌≡◌, ℕ, ◌+◌, ◌-◌, ◌*◌, ◌/◌, ◌^◌, ◌<◌, ◌≤◌, false, List, [], ◌∷◌, ◌++◌, get_or, arith, drop, length, length-append}
+use Rattle.std.proofs.{Common.{length-drop, map, refl, sym, take, ◌∙◌, ap, Some, None}, lemmas.{Bool.Decides.nat_tests, Nat.div_below}}
+use Rattle.std.{specs.Prelude.{Err, IfOk, MatchOption, Ok, Option, Result, nat_le, nat_lt}, proofs.lemmas.List.{length-take, map-append}}
+use Rattle.verity_plan.{proofs.FanLemmas.fan-some, specs.{Plans.{IsPlan, PlanFields}, PlanCounts.{level_count_of, count_under}, Settings.{fan, hash}}}
 use Rattle.verity_blocks.specs.{ClosingOrder.{BlockIndex, block_index, blocks_before, handed_out}, Levels.{blocks_up, data_blocks}}
 use Rattle.verity_blocks.specs.{TreeOnDevice.tree_block, declared.{closing.Progress.Progress, hash_block.HashBlock.HashBlock}}
 use Rattle.verity_builders.{specs.Feeding.{IsPlacedFrom, ending_fault, given, taking_fault}, proofs.Parts.PlanOfPart.has-part}
 use Rattle.verity_builders.specs.Parts.{FeedsPart, HasLastOfPart, HasPart, IsFedPart, IsHandedOutOfPart, IsPlacedOfPart, blocks_in_part}
-use Rattle.verity_builders.specs.Parts.{bytes_of_part, digest_of_part, first_block, handed_out_of_part, digest_fault, piece_fault}
-use Rattle.verity_builders.specs.{Parts.plan_of_part, Steps.FedTrees.{AnswersLast, FeedsFrom, IsFedTo, IsTreeIn, given_of}}
-use Rattle.verity_builders.specs.declared.{feed_fault.FeedFault.FeedFault, part_builder.PartBuilder.PartBuilder}
-use Rattle.verity_builders.proofs.{Trees.TreeMemory.{closed-block, nothing-last}, Parts.PartLevels.{part-block, part-digest}}
+use Rattle.verity_builders.specs.Parts.{bytes_of_part, digest_of_part, first_block, handed_out_of_part, digest_fault, piece_fault, plan_of_part}
+use Rattle.verity_builders.specs.{Steps.FedTrees.{AnswersLast, FeedsFrom, IsFedTo, IsTreeIn, given_of}, declared.feed_fault.FeedFault.FeedFault}
+use Rattle.verity_builders.{specs.declared.part_builder.PartBuilder.PartBuilder, proofs.Trees.TreeMemory.{closed-block, nothing-last}}
+use Rattle.{verity_builders.proofs.Parts.PartLevels.{part-block, part-digest}, std.proofs.Math.Nat.one-le-pow}
 use Rattle.verity_builders.proofs.Parts.PartInWhole.{handed-in_whole, in_whole, index-in_whole, part-last-below, power-split}
 
 -- of a part that the tree has, a piece has the faults that it has above the part's data alone

@@ -1,11 +1,10 @@
 -- The orders of the parts and of the join are together the closing order, and what a part hands out is the tree's.
-use Rattle.std.proofs.Common.{◌≡◌, ℕ, zero, suc, ◌+◌, ◌-◌, ◌*◌, ◌/◌, ◌^◌, ◌<◌, ◌≤◌, min, not, Bool, List, [], ◌∷◌, ◌++◌, map, arith, refl}
-use Rattle.std.proofs.{Common.{sym, ◌∙◌, ap, inl, inr, append_assoc}, lemmas.Bool.{cases_lt, Decides.nat_tests}}
-use Rattle.std.proofs.lemmas.List.{append-nil, map-id, Concat.flat_map-append, Elements.filter-append, Filters.sum_by-filter_both}
-use Rattle.std.proofs.{lemmas.List.{FromFn.map-range_with_len_more, Sums.sum_by-append}, Math.Nat.one-le-pow}
-use Rattle.std.specs.{List.{filter, flat_map, range_with_len}, Prelude.{◌==◌, ◌&&◌, cond, nat_le, nat_lt}}
-use Rattle.verity_plan.specs.{Plans.{HasBlock, PlanFields}, PlanCounts.{level_count_of, count_under}, Settings.fan}
-use Rattle.verity_plan.proofs.{CountLemmas.le-div_ceil, FanLemmas.fan-some, IndexLemmas.HasBlock-above}
+use Rattle.std.proofs.Common.{◌≡◌, ℕ, zero, suc, ◌+◌, ◌-◌, ◌*◌, ◌/◌, ◌^◌, ◌<◌, ◌≤◌, min, not, Bool, List, [], ◌∷◌, ◌++◌, map, arith, refl, sym, ◌∙◌}
+use Rattle.std.proofs.{Common.{ap, inl, inr, append_assoc}, lemmas.{Bool.{cases_lt, Decides.nat_tests}, List.{append-nil, map-id}}}
+use Rattle.std.proofs.lemmas.List.{Concat.flat_map-append, Elements.filter-append, Filters.sum_by-filter_both, FromFn.map-range_with_len_more}
+use Rattle.std.{proofs.{lemmas.List.Sums.sum_by-append, Math.Nat.one-le-pow}, specs.List.{filter, flat_map, range_with_len}}
+use Rattle.{std.specs.Prelude.{◌==◌, ◌&&◌, cond, nat_le, nat_lt}, verity_plan.proofs.{FanLemmas.fan-some, IndexLemmas.HasBlock-above}}
+use Rattle.verity_plan.{specs.{Plans.{HasBlock, PlanFields}, PlanCounts.{level_count_of, count_under}, Settings.fan}, proofs.CountLemmas.le-div_ceil}
 use Rattle.verity_blocks.specs.ClosingOrder.{BlockIndex, block_index, blocks_before, closed_after, closing_with, first_closing, times}
 use Rattle.verity_blocks.proofs.Order.{TimesCounted.times-cases, ClosesOnce.closed_time}
 use Rattle.verity_builders.specs.Parts.{closed_in_part, first_block, handed_out_of_part, join_order, part_order, blocks_in_part}

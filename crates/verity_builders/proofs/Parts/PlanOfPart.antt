@@ -1,9 +1,8 @@
 -- The plan of the tree above a part's data alone, and that it is smaller than the whole tree's.
-use Rattle.std.proofs.{Common.{◌≡◌, ℕ, ◌+◌, ◌-◌, ◌*◌, ◌<◌, ◌≤◌, min, arith, sym, ◌∙◌, ap, inl, inr, refl}, lemmas.Bool.cases_lt}
-use Rattle.std.{proofs.Math.Nat.{mul-le-mul_right, mul-pos, one-le-pow}, specs.{Int.div_ceil, Prelude.Ok}}
-use Rattle.verity_plan.specs.Plans.{IsPlan, PlanFields, blocks_from, checked_plan, end_place_of, level_count, plan_for_bytes}
-use Rattle.verity_plan.specs.{PlanCounts.level_count_of, Settings.fan}
-use Rattle.verity_plan.proofs.CountLemmas.{div_ceil-le, div_ceil-mul, le-div_ceil, mul-lt_div_ceil, mul_le}
+use Rattle.std.{proofs.{Common.{◌≡◌, ℕ, ◌+◌, ◌-◌, ◌*◌, ◌<◌, ◌≤◌, min, arith, sym, ◌∙◌, ap, inl, inr, refl}, lemmas.Bool.cases_lt}, specs.Int.div_ceil}
+use Rattle.std.{proofs.Math.Nat.{mul-le-mul_right, mul-pos, one-le-pow}, specs.Prelude.Ok}
+use Rattle.verity_plan.specs.{Plans.{IsPlan, PlanFields, blocks_from, checked_plan, end_place_of, level_count, plan_for_bytes}, Settings.fan}
+use Rattle.verity_plan.{specs.PlanCounts.level_count_of, proofs.CountLemmas.{div_ceil-le, div_ceil-mul, le-div_ceil, mul-lt_div_ceil, mul_le}}
 use Rattle.verity_plan.proofs.{FanLemmas.{fan-some, fan-two, some_data}, PlaceLemmas.{blocks_from-fewer, blocks_from-more}}
 use Rattle.verity_plan.proofs.PlanLemmas.{checked_plan-planned, level_count-le, level_count-least}
 use Rattle.verity_builders.specs.Parts.{HasPart, first_block, blocks_in_part, plan_of_part}

@@ -1,12 +1,12 @@
 -- In whatever order the blocks of a tree are put at their places, the device is the same.
-use Rattle.std.proofs.Common.{◌≡◌, ℕ, ◌+◌, ◌-◌, ◌*◌, ◌<◌, ◌≤◌, ◌⊎◌, ◌↔◌, List, [], ◌∷◌, ◌++◌, length, get_or, arith, refl, sym, subst, ◌∙◌}
-use Rattle.std.proofs.{Common.{ap, inl, inr}, lemmas.{Bool.{cases_Bool, cases_lt, Decides.nat_tests}, List.{ext_get_or, places}}}
-use Rattle.{std.{proofs.lemmas.List.Sums.sum_by-append, specs.Prelude.{◌==◌, ◌&&◌, cond}}, verity_io.specs.Writing.put}
+use Rattle.std.proofs.Common.{◌≡◌, ℕ, ◌+◌, ◌-◌, ◌*◌, ◌<◌, ◌≤◌, ◌⊎◌, ◌↔◌, List, [], ◌∷◌, ◌++◌, length, get_or, arith, refl, sym, subst, ◌∙◌, ap, inl}
+use Rattle.std.proofs.{Common.inr, lemmas.{Bool.{cases_Bool, cases_lt, Decides.nat_tests}, List.{ext_get_or, places, Sums.sum_by-append}}}
+use Rattle.{std.specs.Prelude.{◌==◌, ◌&&◌, cond}, verity_io.specs.Writing.put, verity_plan.proofs.{FanLemmas.fan-some, FitLemmas.fan-fits}}
 use Rattle.verity_plan.specs.{Plans.{IsPlan, IsTreeBlock, PlanFields, start_byte}, Settings.{TreeSettingsFields, fan, slot_width}}
-use Rattle.{verity_plan.proofs.{FanLemmas.fan-some, FitLemmas.fan-fits}, verity_blocks.proofs.Levels.CutBlocks.length-cut}
-use Rattle.verity_blocks.specs.{ClosingOrder.{BlockIndex, block_index, closed_after, times}, Levels.data_blocks, TreeOnDevice.tree_block}
-use Rattle.verity_blocks.{specs.TreeWriting.{device_with, tree_on_device}, proofs.Order.TimesCounted.{times-cases, times-first, times-more}}
-use Rattle.verity_blocks.proofs.Order.{ClosesOnce.ClosesOnce-all, PlacedBlocks.{apart, length-put, length-tree_block, put-byte}}
+use Rattle.verity_blocks.{proofs.Levels.CutBlocks.length-cut, specs.{ClosingOrder.{BlockIndex, block_index, closed_after, times}, Levels.data_blocks}}
+use Rattle.verity_blocks.{specs.{TreeOnDevice.tree_block, TreeWriting.{device_with, tree_on_device}}, proofs.Order.ClosesOnce.ClosesOnce-all}
+use Rattle.verity_blocks.proofs.Order.TimesCounted.{times-cases, times-first, times-more}
+use Rattle.verity_blocks.proofs.Order.PlacedBlocks.{apart, length-put, length-tree_block, put-byte}
 
 -- bytes that are put stand there
 put-at : (device : List ℕ) (at : ℕ) (bytes : List ℕ) (i : ℕ) → at ≤ i → i < at + length bytes

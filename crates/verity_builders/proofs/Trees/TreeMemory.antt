@@ -1,17 +1,15 @@
 -- The memory of a builder between two calls: its open blocks, and what comes after them.
-use Rattle.std.proofs.Common.{List, [], ap, arith, rules, drop, length, refl, replicate, sym, take, ℕ, zero, suc, Some, None, inl, inr, ◌*◌}
-use Rattle.{std.proofs.{Common.{◌++◌, ◌+◌, ◌-◌, ◌/◌, ◌^◌, ◌∙◌, ◌≡◌, ◌<◌, ◌≤◌}, lemmas.Bool.cases_lt}, verity_plan.proofs.CountLemmas.mul_le}
-use Rattle.std.proofs.lemmas.List.{drop_at, length-replicate, places, same_lists, take_at}
-use Rattle.std.specs.Prelude.{Err, IfOk, MatchOption, Ok, Option, Result}
-use Rattle.verity_plan.specs.{Plans.{IsPlan, PlanFields}, PlanCounts.{level_count_of, most_level_count}, Settings.{TreeSettingsFields, fan}}
+use Rattle.std.proofs.Common.{List, [], ap, arith, rules, drop, length, refl, replicate, sym, take, ℕ, zero, suc, Some, None, inl, inr, ◌*◌, ◌++◌}
+use Rattle.{std.proofs.{Common.{◌+◌, ◌-◌, ◌/◌, ◌^◌, ◌∙◌, ◌≡◌, ◌<◌, ◌≤◌}, lemmas.Bool.cases_lt}, verity_plan.specs.Settings.{TreeSettingsFields, fan}}
+use Rattle.{std.proofs.lemmas.List.{drop_at, length-replicate, places, same_lists, take_at}, verity_blocks.proofs.Windows.LastByte.last-below}
+use Rattle.{std.specs.Prelude.{Err, IfOk, MatchOption, Ok, Option, Result}, verity_blocks.proofs.Windows.BytesToWindow.HasFed-zeros}
+use Rattle.verity_plan.{proofs.CountLemmas.mul_le, specs.{Plans.{IsPlan, PlanFields}, PlanCounts.{level_count_of, most_level_count}}}
 use Rattle.verity_blocks.specs.{ClosingOrder.{blocks_before, most_closed}, Levels.data_blocks, Steps.Feeding.{HasFed, IsHandingOut, Stands}}
 use Rattle.verity_blocks.specs.{TreeOnDevice.tree_block, declared.{closing.Progress.Progress, hash_block.HashBlock.HashBlock}}
 use Rattle.verity_blocks.proofs.{ClosingSteps.Climbing.{most_closed-all, most_closed-early}, Order.HandedOut.handed-out-stays}
-use Rattle.verity_blocks.proofs.Windows.{LastByte.last-below, BytesToWindow.HasFed-zeros}
-use Rattle.verity_builders.specs.Feeding.{Feeds, HasLast, IsFed, IsFedFile, IsHandedOut, IsPlaced, after_open_blocks, end_fault}
-use Rattle.verity_builders.specs.Feeding.{ending_fault, feed_fault, open_blocks, taking_fault}
-use Rattle.verity_builders.specs.{Steps.FedTrees.{AnswersLast, FeedsFrom, IsFedTo, IsTreeIn}, declared.feed_fault.FeedFault.FeedFault}
-use Rattle.verity_builders.specs.declared.{file_builder.FileBuilder.FileBuilder, tree_builder.TreeBuilder.TreeBuilder}
+use Rattle.verity_builders.specs.Feeding.{Feeds, HasLast, IsFed, IsFedFile, IsHandedOut, IsPlaced, after_open_blocks, end_fault, ending_fault}
+use Rattle.verity_builders.specs.{Feeding.{feed_fault, open_blocks, taking_fault}, Steps.FedTrees.{AnswersLast, FeedsFrom, IsFedTo, IsTreeIn}}
+use Rattle.verity_builders.specs.declared.{feed_fault.FeedFault.FeedFault, file_builder.FileBuilder.FileBuilder, tree_builder.TreeBuilder.TreeBuilder}
 
 -- memory that begins with zeros for the open blocks, to which nothing was fed
 pub HasFed-none : (s : TreeSettingsFields) (levels n : ℕ) (zeros rest : List ℕ) → n ≡ levels * s.hash_block

@@ -1,10 +1,10 @@
 -- The tree above data that are fed, which are all data of a plan or those of a part, between two calls. For the private
 -- functions; a public contract says only that bytes were fed, and it needs none of these to be read.
 use Rattle.std.specs.Prelude.{◌≡◌, ◌⊎◌, ◌<◌, ◌≤◌, ℕ, ◌+◌, ◌-◌, ⊤, List, [], ◌∷◌, ◌++◌, length, Option, Some, None, Result, Ok, Err}
-use Rattle.{verity_plan.specs.{Plans.PlanFields, PlanCounts.level_count_of}, verity_builders.specs.declared.tree_builder.Fed.Fed}
+use Rattle.{verity_plan.specs.{Plans.PlanFields, PlanCounts.level_count_of}, verity_builders.specs.declared.feed_fault.FeedFault.FeedFault}
+use Rattle.verity_builders.specs.{declared.tree_builder.Fed.Fed, Feeding.{IsPlacedFrom, after_open_blocks, open_blocks}}
 use Rattle.verity_blocks.specs.{ClosingOrder.{BlockIndex, handed_out, most_closed}, Steps.Feeding.{Stands, handed_at}}
 use Rattle.verity_blocks.specs.declared.{closing.Progress.Progress, hash_block.HashBlock.HashBlock}
-use Rattle.verity_builders.specs.{Feeding.{IsPlacedFrom, after_open_blocks, open_blocks}, declared.feed_fault.FeedFault.FeedFault}
 
 -- a plan of the tree above some data of a whole tree, which begin with data block `first` and stand below so many levels:
 -- some of these may be above all that the plan has

@@ -2,8 +2,8 @@
 -- and it needs none of these to be read.
 use Rattle.std.specs.Prelude.{◌≡◌, ◌<◌, ◌≤◌, ℕ, zero, suc, ◌+◌, ◌-◌, ◌*◌, ◌/◌, ◌%◌, ◌^◌, ◌++◌, ◌∷◌, [], Bool, true, false, List, length}
 use Rattle.{std.specs.Fork.slice_chunk, verity_blocks.specs.ClosingOrder.{BlockIndex, block_index, closed_after, first_closing}}
-use Rattle.verity_plan.specs.{Plans.PlanFields, PlanCounts.count_under, Settings.{TreeSettingsFields, digest_len, fan}}
 use Rattle.verity_blocks.specs.Steps.OpenBlocks.{HasClosed, HasOpenBlocks, level_digest}
+use Rattle.verity_plan.specs.{Plans.PlanFields, PlanCounts.count_under, Settings.{TreeSettingsFields, digest_len, fan}}
 
 -- the plan of a tree above as many data blocks as a level has parts: its hash blocks are those of this level and above
 abbrev pub plan_of_join : PlanFields → ℕ → PlanFields

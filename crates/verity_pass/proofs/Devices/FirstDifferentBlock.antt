@@ -1,23 +1,20 @@
 -- The first data block in which two pieces of data differ, and the verdict that names it.
-use Rattle.std.proofs.Common.{◌≡◌, ◌≢◌, ◌⊎◌, ℕ, zero, suc, ◌+◌, ◌-◌, ◌*◌, ◌/◌, ◌%◌, ◌^◌, ◌<◌, ◌≤◌, List, [], get_or, length, take, true}
-use Rattle.std.proofs.Common.{false, arith, sym, refl, subst, ◌∙◌, ap, ap₂, inl, inr, below_more}
-use Rattle.std.proofs.lemmas.{Bool.{not_from_false, not_from_true, Decides.nat_tests}, List.{append-nil, ext_get_or}}
-use Rattle.std.proofs.lemmas.{Nat.{div-add-mod', div-mul-add, le-div, mod-mul-add, mod_below, pow-add}, Slice.Eq.bytes_eq-Decides}
-use Rattle.std.{proofs.Math.Nat.{div-mul-le_self, one-le-pow, pow-zero}, specs.{Int.div_ceil, Prelude.{Some, Ok, Err, nat_lt}}}
-use Rattle.verity_plan.specs.{Plans.{HasBlock, IsPlan, PlanFields}, PlanCounts.count_under, Settings.{fan, hash}}
-use Rattle.verity_plan.proofs.{CountLemmas.{mul-lt_div_ceil, mul_le}, FanLemmas.{fan-some, fan-two}}
-use Rattle.verity_plan.proofs.{IndexLemmas.{HasBlock-above, quotient-next}, PlanLemmas.{levels-all, levels-more}}
+use Rattle.std.proofs.Common.{◌≡◌, ◌≢◌, ◌⊎◌, ℕ, zero, suc, ◌+◌, ◌-◌, ◌*◌, ◌/◌, ◌%◌, ◌^◌, ◌<◌, ◌≤◌, List, [], get_or, length, take, true, false, arith}
+use Rattle.std.proofs.{Common.{sym, refl, subst, ◌∙◌, ap, ap₂, inl, inr, below_more}, lemmas.Bool.{not_from_false, not_from_true, Decides.nat_tests}}
+use Rattle.std.proofs.lemmas.{List.{append-nil, ext_get_or}, Nat.{div-add-mod', div-mul-add, le-div, mod-mul-add, mod_below, pow-add}}
+use Rattle.std.{proofs.{lemmas.Slice.Eq.bytes_eq-Decides, Math.Nat.{div-mul-le_self, one-le-pow, pow-zero}}, specs.Int.div_ceil}
+use Rattle.{std.specs.Prelude.{Some, Ok, Err, nat_lt}, verity_plan.{proofs.PlanLemmas.{levels-all, levels-more}, specs.PlanCounts.count_under}}
+use Rattle.verity_plan.proofs.{CountLemmas.{mul-lt_div_ceil, mul_le}, FanLemmas.{fan-some, fan-two}, IndexLemmas.{HasBlock-above, quotient-next}}
 use Rattle.verity_blocks.specs.{ClosingOrder.{block_index, closed_after, closes, closing_moment}, Levels.{data_blocks, root}}
 use Rattle.verity_blocks.{specs.{Steps.Closing.ClosesWith, TreeOnDevice.{HoldsTree, tree_block}}, proofs.Levels.CutBlocks.length-cut}
-use Rattle.verity_blocks.proofs.{OpenBlocks.DigestsInTurn.index-first, Order.ClosesOnce.{closed_time, closes-time}}
-use Rattle.verity_blocks.proofs.Order.ClosedStays.{blocks_up-prefix}
+use Rattle.verity_blocks.proofs.{OpenBlocks.DigestsInTurn.index-first, Order.{ClosesOnce.{closed_time, closes-time}, ClosedStays.blocks_up-prefix}}
 use Rattle.verity_pass.specs.{Collisions.TreesCollide, FirstDifferentBlock.{IsFirstDifferent, names_data_block}, Paths.true_chain}
-use Rattle.verity_pass.specs.Steps.OnClosed.{HoldsAll, KeepsSame, StopsComparing, effects, is_unread, stop_at}
+use Rattle.verity_pass.specs.{Steps.OnClosed.{HoldsAll, KeepsSame, StopsComparing, effects, is_unread, stop_at}, declared.part.Part.TheVariants.Child}
 use Rattle.verity_pass.specs.{Verdicts.{NoneDiffers, digest_in, first_slot, part_of, verdict}, declared.comparing.CompareFault.CompareFault}
-use Rattle.verity_pass.specs.declared.{comparing.CompareFault.TheVariants.{Differs, RootDiffers}, part.Part.TheVariants.Child}
+use Rattle.verity_pass.{specs.declared.comparing.CompareFault.TheVariants.{Differs, RootDiffers}, proofs.HeldTree.{holds-right, stands-counted}}
 use Rattle.verity_pass.proofs.{BoundData.{blocks-bound, collide-at, data-bound}, Paths.TrueChain.{length-true_block, true_chain-next}}
-use Rattle.verity_pass.proofs.{HeldTree.{holds-right, stands-counted}, Passes.ComparedPass.{bytes-differ, judges-differs, judges-root}}
-use Rattle.verity_pass.proofs.{Passes.OnePass.stops-for, PathSteps.same_or_two, Devices.StoredBlocks.find-range}
+use Rattle.verity_pass.proofs.{Passes.{ComparedPass.{bytes-differ, judges-differs, judges-root}, OnePass.stops-for}, PathSteps.same_or_two}
+use Rattle.{verity_pass.proofs.Devices.StoredBlocks.find-range, verity_plan.specs.{Plans.{HasBlock, IsPlan, PlanFields}, Settings.{fan, hash}}}
 use Rattle.verity_pass.specs.declared.pass.comparing.CompareStop.TheVariants as P
 
 -- of the first data blocks of two pieces of data none differ, or some one is the first that differs

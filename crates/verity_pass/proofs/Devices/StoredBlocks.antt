@@ -1,11 +1,10 @@
 -- Stored blocks compared with the tree's, one by one.
 use Rattle.std.proofs.Common.{◌≡◌, ℕ, zero, suc, ◌+◌, ◌*◌, ◌<◌, ◌≤◌, Bool, true, false, List, [], ◌∷◌, ◌++◌, arith, refl, inl, inr}
 use Rattle.std.proofs.{lemmas.{Bool.cases_eq, List.{take_all, Elements.All-push}, Slice.Eq.bytes_eq-Decides}, Math.Nat.mul-le-mul_right}
-use Rattle.{std.specs.{Prelude.{find, Some, None}, List.range_with_len}, verity_plan.proofs.{FitLemmas.digest-slot, PlanLemmas.count-more}}
-use Rattle.verity_plan.specs.{Plans.{PlanFields, HasBlock}, PlanCounts.count_under}
+use Rattle.{std.specs.{Prelude.{find, Some, None}, List.range_with_len}, verity_pass.specs.Verdicts.{HoldsBlockAt, NoneDiffers}}
+use Rattle.verity_plan.{proofs.{FitLemmas.digest-slot, PlanLemmas.count-more}, specs.{Plans.{PlanFields, HasBlock}, PlanCounts.count_under}}
 use Rattle.verity_plan.{specs.Settings.{TreeSettingsFields, digest_len, fan, slot_width}, proofs.CountLemmas.mul-lt_div_ceil}
 use Rattle.verity_blocks.specs.{ClosingOrder.BlockIndex, TreeOnDevice.{stored_block, tree_block}}
-use Rattle.verity_pass.specs.Verdicts.{HoldsBlockAt, NoneDiffers}
 
 -- the first number of a range that passes a test
 pub find-range : (p : ℕ → Bool) (from n k : ℕ) → from ≤ k → k < from + n → ((j : ℕ) → from ≤ j → j < k → p j ≡ false)

@@ -1,16 +1,14 @@
 -- The verdict from what a comparison came to.
-use Rattle.std.proofs.Common.{◌≡◌, ◌≢◌, ℕ, ◌+◌, ◌-◌, ◌≤◌, Bool, true, false, List, [], ◌∷◌, ◌++◌, length, arith, sym, ◌∙◌, ap, refl, subst}
-use Rattle.std.proofs.{Common.{Ok, Err, append_assoc, cond}, lemmas.Bool.{false_from_ne_true, not_from_false, not_from_true}}
-use Rattle.std.proofs.lemmas.{Bool.Decides.nat_tests, List.{Folds.find-append, Elements.{All-head, All-tail}}, Slice.Eq.bytes_eq-Decides}
-use Rattle.{std.specs.{Prelude.{find, Some, None}, Str.bytes_eq}, verity_pass.specs.{Reading.EndsWithin, Comparing.ComesTo}}
-use Rattle.verity_pass.specs.Steps.{OnClosed.{IsStopFor, KeepsSame, HoldsAll, StopsComparing, effects, is_unread}, OnePass.StopsFor}
-use Rattle.verity_pass.specs.Verdicts.{NoneDiffers, HoldsBlockAt, differs, verdict_by, verdict}
-use Rattle.verity_pass.specs.declared.pass.{comparing.CompareStop.CompareStop, pass_fault.Stop.Stop}
-use Rattle.verity_pass.specs.declared.{comparing.CompareFault.TheVariants.{SourceShort, RootDiffers}, part.Part.Part}
-use Rattle.verity_pass.proofs.Passes.{OnePass.stops-next, ReadBlocks.whole_blocks-above}
+use Rattle.std.proofs.Common.{◌≡◌, ◌≢◌, ℕ, ◌+◌, ◌-◌, ◌≤◌, Bool, true, false, List, [], ◌∷◌, ◌++◌, length, arith, sym, ◌∙◌, ap, refl, subst, Ok, Err}
+use Rattle.std.proofs.{Common.{append_assoc, cond}, lemmas.Bool.{false_from_ne_true, not_from_false, not_from_true, Decides.nat_tests}}
+use Rattle.std.{proofs.lemmas.{List.{Folds.find-append, Elements.{All-head, All-tail}}, Slice.Eq.bytes_eq-Decides}, specs.Prelude.{find, Some, None}}
+use Rattle.{std.specs.Str.bytes_eq, verity_pass.specs.{Verdicts.{NoneDiffers, HoldsBlockAt, differs, verdict_by, verdict}, declared.part.Part.Part}}
+use Rattle.verity_pass.specs.{Reading.EndsWithin, Comparing.ComesTo, Steps.OnePass.StopsFor, declared.pass.comparing.CompareStop.CompareStop}
+use Rattle.verity_pass.specs.{Steps.OnClosed.{IsStopFor, KeepsSame, HoldsAll, StopsComparing, effects, is_unread}, declared.pass.pass_fault.Stop.Stop}
+use Rattle.verity_pass.{specs.declared.comparing.CompareFault.TheVariants.{SourceShort, RootDiffers}, proofs.Passes.OnePass.stops-next}
+use Rattle.{verity_pass.proofs.Passes.ReadBlocks.whole_blocks-above, verity_plan.specs.{Plans.{PlanFields, IsPlan}, Settings.fan}}
 use Rattle.verity_blocks.specs.{ClosingOrder.{BlockIndex, block_index, closed_after}, Levels.{root, data_blocks, whole_blocks}}
 use Rattle.verity_blocks.proofs.{Order.ClosingInTurn.closed_after-prefix, Levels.DataBlocks.whole_blocks-all}
-use Rattle.verity_plan.specs.{Plans.{PlanFields, IsPlan}, Settings.fan}
 use Rattle.verity_pass.specs.declared.pass.comparing.CompareStop.TheVariants as P
 use Rattle.verity_pass.specs.declared.comparing.CompareFault.TheVariants as F
 

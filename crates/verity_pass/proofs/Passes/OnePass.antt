@@ -1,28 +1,24 @@
 -- The one pass over the data: windows are read, and the hash blocks that close are handed on.
-use Rattle.std.proofs.Common.{List, [], ap, append_assoc, arith, drop, inl, inr, length, length-drop, refl, replicate, sym, take, ℕ, ◌*◌}
-use Rattle.{std.proofs.Common.{◌%◌, ◌++◌, ◌+◌, ◌-◌, ◌/◌, ◌<◌, ◌^◌, ◌∙◌, ◌∷◌, ◌≡◌, ◌≤◌}, verity_blocks.specs.Levels.{cut, data_blocks, root}}
-use Rattle.std.proofs.lemmas.List.{append-nil, drop_all, length-take, length-take-le, take-take, take_all}
-use Rattle.std.proofs.lemmas.{List.Elements.{Contains-append_left, Contains-append_right}, Nat.div-add-mod', Bool.cases_lt}
+use Rattle.std.proofs.Common.{List, [], ap, append_assoc, arith, drop, inl, inr, length, length-drop, refl, replicate, sym, take, ℕ, ◌*◌, ◌%◌, ◌++◌}
+use Rattle.std.proofs.{Common.{◌+◌, ◌-◌, ◌/◌, ◌<◌, ◌^◌, ◌∙◌, ◌∷◌, ◌≡◌, ◌≤◌}, lemmas.List.Elements.{Contains-append_left, Contains-append_right}}
+use Rattle.std.proofs.lemmas.{List.{append-nil, drop_all, length-take, length-take-le, take-take, take_all}, Nat.div-add-mod', Bool.cases_lt}
 use Rattle.std.{proofs.Math.{Nat.{div-eq_of_lt-le, mul-div_cancel, pow-zero}, Seq.take-add}, specs.Fork.slice_chunk}
 use Rattle.{std.specs.Prelude.{Bool, true, false, Some, None, if◌then◌else◌}, verity_hash.specs.Hashing.with_zeros}
-use Rattle.verity_plan.specs.{Plans.{IsPlan, PlanFields, start_byte}, PlanCounts.level_count_of}
-use Rattle.verity_plan.{specs.Settings.{IsValid, TreeSettingsFields, fan, hash}, proofs.FanLemmas.{fan-two, some_data}}
-use Rattle.verity_plan.proofs.{CountLemmas.le-div_ceil, PlanLemmas.blocks-some}
+use Rattle.verity_blocks.specs.{Levels.{cut, data_blocks, root}, Steps.Feeding.{EndsWindow, HasFed, IsHandingOut, TakesMore, windows_before}}
 use Rattle.verity_blocks.specs.ClosingOrder.{BlockIndex, blocks_before, closed_after, handed_out, ComesNext, block_index, first_closing}
-use Rattle.verity_blocks.specs.Steps.{Feeding.{EndsWindow, HasFed, IsHandingOut, TakesMore, windows_before}, OpenBlocks.HasClosed}
-use Rattle.verity_blocks.specs.{Steps.Closing.ClosesWith, TreeOnDevice.tree_block, Windows.{window_blocks, window_length}}
-use Rattle.verity_blocks.{specs.TreeWriting.device_with, proofs.ClosingSteps.Climbing.blocks-most}
-use Rattle.verity_blocks.proofs.Windows.LastByte.{last-below, whole-block}
-use Rattle.verity_blocks.proofs.Windows.BytesToWindow.{HasFed-filled, closed_after-placed, windows_before-filled}
-use Rattle.verity_blocks.proofs.{Windows.RowsOfWindow.placed-in-window, OpenBlocks.ClosingBlocks.closes-closed}
-use Rattle.verity_blocks.proofs.{OpenBlocks.DigestsInTurn.{IsCarrying-first, level_digest-root}, Order.HandedOut.handed-out-stays}
-use Rattle.verity_blocks.proofs.Order.ClosingInTurn.{closing-front, closed_after-more, closed_after-prefix, device_with-append}
-use Rattle.verity_blocks.proofs.{Order.ClosingInTurn.first_closing-more, Levels.CutBlocks.length-cut}
-use Rattle.verity_pass.{proofs.Passes.ReadBlocks.{HasRead-none, data-next}, specs.Reading.{ReadsUpTo, bytes_of}}
-use Rattle.verity_pass.specs.Steps.{DataBlocks.{StopsInBlock, side_of as block_side}, OnClosed.{stop_side, Effects}, OnePass.StopsFor}
-use Rattle.verity_pass.specs.declared.pass.pass_fault.{BlockFault.{BlockFault, TheVariants.{Short, Failed}}, Stop.Stop}
+use Rattle.verity_blocks.specs.{Steps.{OpenBlocks.HasClosed, Closing.ClosesWith}, TreeOnDevice.tree_block, Windows.{window_blocks, window_length}}
+use Rattle.verity_blocks.{specs.TreeWriting.device_with, proofs.{ClosingSteps.Climbing.blocks-most, Windows.LastByte.{last-below, whole-block}}}
+use Rattle.verity_blocks.proofs.Windows.{BytesToWindow.{HasFed-filled, closed_after-placed, windows_before-filled}, RowsOfWindow.placed-in-window}
+use Rattle.verity_blocks.proofs.OpenBlocks.{ClosingBlocks.closes-closed, DigestsInTurn.{IsCarrying-first, level_digest-root}}
+use Rattle.verity_blocks.proofs.{Order.HandedOut.handed-out-stays, Levels.CutBlocks.length-cut}
+use Rattle.verity_blocks.proofs.Order.ClosingInTurn.{closing-front, closed_after-more, closed_after-prefix, device_with-append, first_closing-more}
+use Rattle.verity_plan.specs.{Plans.{IsPlan, PlanFields, start_byte}, PlanCounts.level_count_of, Settings.{IsValid, TreeSettingsFields, fan, hash}}
+use Rattle.verity_plan.proofs.{FanLemmas.{fan-two, some_data}, CountLemmas.le-div_ceil, PlanLemmas.blocks-some}
+use Rattle.verity_pass.{proofs.Passes.ReadBlocks.{HasRead-none, data-next}, specs.{Reading.{ReadsUpTo, bytes_of}, declared.pass.pass_fault.Stop.Stop}}
+use Rattle.verity_pass.specs.declared.pass.pass_fault.BlockFault.{BlockFault, TheVariants.{Short, Failed}}
 use Rattle.verity_io.specs.{Writing.put, Counting.{Counts, TheDevice, TheSource, is_call_of}, Reading.HasRead}
 use borrow.Rule.Slice.PartMut.{put_mid}
+use Rattle.verity_pass.specs.Steps.{DataBlocks.{StopsInBlock, side_of as block_side}, OnClosed.{stop_side, Effects}, OnePass.StopsFor}
 
 -- the data blocks of a plan are those of the bytes that it wants
 pub data_blocks-front : (p : PlanFields) (bytes : List ℕ) → data_blocks p (take p.wanted bytes) ≡ data_blocks p bytes

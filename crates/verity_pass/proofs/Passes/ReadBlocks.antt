@@ -1,12 +1,11 @@
 -- One data block read from the source.
-use Rattle.std.proofs.Common.{List, [], ap, arith, drop, inl, inr, length, length-drop, min, refl, sym, take, ℕ, ◌*◌, ◌+◌, ◌-◌, ◌/◌, ◌<◌}
-use Rattle.std.proofs.{Common.{◌∙◌, ◌++◌, length-append, ◌≡◌, ◌≤◌}, lemmas.Bool.cases_lt, Math.Nat.div-eq_of_lt-le}
-use Rattle.std.proofs.lemmas.{List.{take_all, take-take, drop_at, drop-take, drop-drop, length-take}, Nat.le-div}
-use Rattle.{verity_hash.specs.Hashing.with_zeros, verity_io.specs.Reading.HasRead, verity_plan.proofs.IndexLemmas.quotient-below}
-use Rattle.verity_pass.specs.Reading.{EndsWithin, FailsWithin, bytes_of}
+use Rattle.std.proofs.Common.{List, [], ap, arith, drop, inl, inr, length, length-drop, min, refl, sym, take, ℕ, ◌*◌, ◌+◌, ◌-◌, ◌/◌, ◌<◌, ◌∙◌, ◌++◌}
+use Rattle.std.proofs.{Common.{length-append, ◌≡◌, ◌≤◌}, lemmas.{Bool.cases_lt, Nat.le-div}, Math.Nat.div-eq_of_lt-le}
+use Rattle.{std.proofs.lemmas.List.{take_all, take-take, drop_at, drop-take, drop-drop, length-take}, verity_hash.specs.Hashing.with_zeros}
+use Rattle.{verity_io.specs.Reading.HasRead, verity_plan.proofs.FanLemmas.some_data, verity_pass.specs.Reading.{EndsWithin, FailsWithin, bytes_of}}
+use Rattle.verity_plan.{proofs.{IndexLemmas.quotient-below, CountLemmas.mul-lt_div_ceil}, specs.{Plans.{IsPlan, PlanFields}, Settings.hash}}
 use Rattle.verity_blocks.specs.{Levels.{block_at, data_blocks, whole_blocks}, Steps.{PlainRoots.digest_of_block, OpenBlocks.level_digest}}
 use Rattle.verity_blocks.proofs.Levels.DataBlocks.{level_digest-data, whole_blocks-less, whole_blocks-all}
-use Rattle.verity_plan.{specs.{Plans.{IsPlan, PlanFields}, Settings.hash}, proofs.{CountLemmas.mul-lt_div_ceil, FanLemmas.some_data}}
 
 -- the next bytes of a file in a block are its next block
 block-next : (bytes : List ℕ) (b size i data_len : ℕ) → i * b < size → data_len ≡ min b (size - i * b)

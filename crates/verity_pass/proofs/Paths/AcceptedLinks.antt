@@ -1,11 +1,10 @@
 -- Blocks that are accepted one by one are an accepted path, and what an accepted block is.
-use Rattle.std.proofs.Common.{◌≡◌, ℕ, zero, suc, ◌+◌, ◌/◌, ◌%◌, ◌^◌, ◌<◌, ◌≤◌, ◌⊎◌, List, length, arith, sym, subst, ◌∙◌, ap, refl, inl}
-use Rattle.std.{proofs.{Common.inr, lemmas.{Bool.{cases_lt, Decides.nat_tests}, Slice.Eq.bytes_eq-Decides}}, specs.Prelude.Ok}
+use Rattle.std.proofs.Common.{◌≡◌, ℕ, zero, suc, ◌+◌, ◌/◌, ◌%◌, ◌^◌, ◌<◌, ◌≤◌, ◌⊎◌, List, length, arith, sym, subst, ◌∙◌, ap, refl, inl, inr}
+use Rattle.std.{proofs.lemmas.{Bool.{cases_lt, Decides.nat_tests}, Slice.Eq.bytes_eq-Decides}, specs.Prelude.Ok}
 use Rattle.verity_plan.specs.{Plans.{PlanFields, IsPlan}, PlanCounts.level_count_of, Settings.{TreeSettingsFields, fan, hash}}
 use Rattle.verity_blocks.{specs.Levels.{data_blocks, root}, proofs.JoinedLists.{length-pieces, piece}}
-use Rattle.verity_pass.specs.Links.{AreLinked, IsCollision, block_size_up, checked_link, checked_top, joined}
-use Rattle.verity_pass.specs.{Paths.{IsAccepted, chain, digest_above, true_chain}, Verdicts.digest_in}
-use Rattle.verity_pass.proofs.Paths.TrueChain.{true_chain-next, true_chain-top}
+use Rattle.verity_pass.specs.{Links.{AreLinked, IsCollision, block_size_up, checked_link, checked_top, joined}, Verdicts.digest_in}
+use Rattle.verity_pass.{specs.Paths.{IsAccepted, chain, digest_above, true_chain}, proofs.Paths.TrueChain.{true_chain-next, true_chain-top}}
 use Rattle.verity_pass.proofs.PathSteps.{digest_above-below, digest_above-top, same_or_two}
 
 -- what an accepted block under a level is

@@ -1,16 +1,14 @@
 -- The true chain of a data block: each block's hash is the digest in its slot of the block above, and the last one's
 -- the root.
-use Rattle.std.proofs.Common.{◌≡◌, ℕ, zero, suc, ◌+◌, ◌*◌, ◌/◌, ◌%◌, ◌^◌, ◌<◌, ◌≤◌, List, [], ◌∷◌, ◌++◌, get_or, take, drop, length, map}
-use Rattle.std.{proofs.Common.{arith, sym, refl, ◌∙◌, ap, length-drop, append_assoc}, specs.{Fork.slice_chunk, List.flat_map}}
-use Rattle.std.proofs.lemmas.{List.{drop-map, length-take, take-map, take_at, FromFn.get_or-map-range_with_len}, Grind.common_steps}
-use Rattle.std.proofs.{lemmas.Nat.{div-add-mod', mod_below}, Math.{Nat.{div-eq_of_lt, mul-le-mul_right}, Seq.drop-append-add}}
-use Rattle.verity_plan.specs.{Plans.{IsPlan, PlanFields, level_count}, PlanCounts.level_count_of}
-use Rattle.verity_plan.{specs.Settings.{TreeSettingsFields, digest_len, fan, hash, slot, slot_width}, proofs.FanLemmas.{fan-some, fan-two}}
-use Rattle.verity_plan.proofs.{FitLemmas.{digest-slot, fan-fits}, CountLemmas.IsLevelCount-level_count}
-use Rattle.{verity_plan.proofs.IndexLemmas.{quotient-below, quotient-next}, verity_pass.specs.{Paths.true_chain, Verdicts.digest_in}}
+use Rattle.std.proofs.Common.{◌≡◌, ℕ, zero, suc, ◌+◌, ◌*◌, ◌/◌, ◌%◌, ◌^◌, ◌<◌, ◌≤◌, List, [], ◌∷◌, ◌++◌, get_or, take, drop, length, map, arith, sym}
+use Rattle.std.{proofs.{Common.{refl, ◌∙◌, ap, length-drop, append_assoc}, lemmas.Grind.common_steps}, specs.{Fork.slice_chunk, List.flat_map}}
+use Rattle.std.proofs.lemmas.{List.{drop-map, length-take, take-map, take_at, FromFn.get_or-map-range_with_len}, Nat.{div-add-mod', mod_below}}
+use Rattle.{std.proofs.Math.{Nat.{div-eq_of_lt, mul-le-mul_right}, Seq.drop-append-add}, verity_pass.specs.{Paths.true_chain, Verdicts.digest_in}}
+use Rattle.verity_plan.{specs.{Plans.{IsPlan, PlanFields, level_count}, PlanCounts.level_count_of}, proofs.FanLemmas.{fan-some, fan-two}}
+use Rattle.verity_plan.{specs.Settings.{TreeSettingsFields, digest_len, fan, hash, slot, slot_width}, proofs.FitLemmas.{digest-slot, fan-fits}}
+use Rattle.verity_plan.proofs.{CountLemmas.IsLevelCount-level_count, IndexLemmas.{quotient-below, quotient-next}}
 use Rattle.verity_blocks.proofs.Levels.{CutBlocks.{length-cut, length-with_zeros}, LevelCounts.height-level_count}
-use Rattle.verity_blocks.proofs.OpenBlocks.OpenBlock.{block-up, length-hash, length-slots}
-use Rattle.verity_blocks.proofs.OpenBlocks.DigestsInTurn.{index-first, level_digest-below}
+use Rattle.verity_blocks.proofs.OpenBlocks.{OpenBlock.{block-up, length-hash, length-slots}, DigestsInTurn.{index-first, level_digest-below}}
 use Rattle.verity_blocks.specs.Levels.{block_at, cut, data_blocks, hash_block_of, blocks_up, root}
 
 -- the true chain, by levels up

@@ -2,8 +2,8 @@
 -- For the private functions; not needed to read a public contract.
 use Rattle.std.specs.Prelude.{◌≡◌, ℕ, ◌+◌, ◌*◌, ◌<◌, ◌≤◌, List, length, take, drop, Option, Some, None, Result, Ok, Err}
 use Rattle.{verity_io.specs.{Counting.{Side, TheSource}, Reading.HasRead}, verity_plan.specs.Plans.PlanFields}
-use Rattle.verity_pass.specs.{Reading.{EndsWithin, FailsWithin}, declared.pass.pass_fault.BlockFault.BlockFault}
-use Rattle.verity_pass.specs.declared.pass.pass_fault.{BlockFault.TheVariants.{Short, Failed}, SourceStop.SourceStop}
+use Rattle.verity_pass.specs.{Reading.{EndsWithin, FailsWithin}, declared.pass.pass_fault.BlockFault.{BlockFault, TheVariants.{Short, Failed}}}
+use Rattle.verity_pass.specs.declared.pass.pass_fault.SourceStop.{SourceStop}
 
 -- whose call failed
 abbrev pub side_of : BlockFault → Option Side

@@ -2,10 +2,9 @@
 -- For the private functions; not needed to read a public contract.
 use Rattle.std.specs.Prelude.{◌≡◌, ◌≢◌, ℕ, Bool, true, false, List, Option, Some, None, if◌then◌else◌}
 use Rattle.verity_io.specs.{Counting.{Side, TheDevice}, Writing.Spoiled, declared.failed.Failed.Failed}
-use Rattle.verity_plan.specs.Plans.{PlanFields, start_byte_of}
+use Rattle.{verity_plan.specs.Plans.{PlanFields, start_byte_of}, verity_pass.specs.declared.pass.pass_fault.Stop.Stop}
 use Rattle.verity_blocks.specs.{ClosingOrder.{BlockIndex, block_index}, TreeOnDevice.{stored_block, tree_block}, TreeWriting.device_with}
-use Rattle.verity_pass.specs.{Verdicts.{NoneDiffers, part_of}, declared.pass.comparing.CompareStop.CompareStop}
-use Rattle.verity_pass.specs.declared.pass.{comparing.CompareStop.TheVariants.{Unread, Differs}, pass_fault.Stop.Stop}
+use Rattle.verity_pass.specs.{Verdicts.{NoneDiffers, part_of}, declared.pass.comparing.CompareStop.{CompareStop, TheVariants.{Unread, Differs}}}
 
 -- whose call failed: the device's, or no one's
 abbrev pub side_by : {F : Type 0} → (F → Bool) → F → Option Side

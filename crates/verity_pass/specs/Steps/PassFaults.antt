@@ -2,8 +2,8 @@
 -- For the private functions; not needed to read a public contract.
 use Rattle.std.specs.Prelude.{Bool, Option}
 use Rattle.verity_io.specs.Counting.{Side}
-use Rattle.verity_pass.specs.{Steps.{DataBlocks.side_of as block_side, OnClosed.stop_side}, declared.pass.pass_fault.PassFault.PassFault}
 use Rattle.verity_pass.specs.declared.pass.pass_fault.{PassFault.TheVariants.{InData, AtBlock}, SourceStop.SourceStop}
+use Rattle.verity_pass.specs.{Steps.{DataBlocks.side_of as block_side, OnClosed.stop_side}, declared.pass.pass_fault.PassFault.PassFault}
 
 -- whose call failed
 abbrev pub source_side : SourceStop → Option Side

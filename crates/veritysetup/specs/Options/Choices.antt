@@ -3,16 +3,14 @@
 -- this project's own.
 use Rattle.std.specs.Prelude.{ℕ, ◌/◌, ◌&&◌, Bool, not, nat_lt, List, Option, Result, Ok, Err, ok_or, unwrap_or, if◌then◌else◌}
 use Rattle.verity_plan.specs.{Settings.{TreeSettingsFields, rule_of}, CheckedSettings.type_of_number, declared.hash_type.HashType.HashType}
-use Rattle.{verity_plan.specs.declared.plan_fault.PlanFault.PlanFault, verity_hash.specs.declared.algorithm.Algorithm.Algorithm}
-use Rattle.verity_plan.specs.Plans.{PlanFields, multiple_of, offset_unit, plan_at, superblock_size}
-use Rattle.command_line.specs.Options.{algorithm_or_default, default_block_size, ◌>>=◌}
-use Rattle.veritysetup.specs.Options.OptionTexts.{OptionTexts, superblock_uuid, block_size_of, number_if_given, number_option}
-use Rattle.veritysetup.specs.Options.{OptionTexts.{root_if_given, salt_or_random, uuid_or_random}, Settings.SettingsFields}
-use Rattle.veritysetup.specs.declared.options.option_fault.OptionName.TheVariants.{Format, DataBlockSize, HashBlockSize, DataBlocks}
-use Rattle.veritysetup.specs.declared.options.option_fault.{OptionName.TheVariants.HashOffset, OptionFault.OptionFault}
-use Rattle.veritysetup.specs.declared.options.option_fault.OptionFault.TheVariants.{BadNumber, UnknownHash, BadHashType, BadBlockSize}
-use Rattle.veritysetup.specs.declared.options.option_fault.OptionFault.TheVariants.{BadSalt, BadUuid, BadHashOffset, NoData, TooLarge}
-use Rattle.veritysetup.specs.declared.options.option_fault.OptionFault.TheVariants.{Overlap, BadRoot}
+use Rattle.verity_plan.specs.{declared.plan_fault.PlanFault.PlanFault, Plans.{PlanFields, multiple_of, offset_unit, plan_at, superblock_size}}
+use Rattle.{verity_hash.specs.declared.algorithm.Algorithm.Algorithm, command_line.specs.Options.{algorithm_or_default, default_block_size, ◌>>=◌}}
+use Rattle.veritysetup.specs.Options.OptionTexts.{OptionTexts, superblock_uuid, block_size_of, number_if_given, number_option, root_if_given}
+use Rattle.veritysetup.specs.Options.{OptionTexts.{salt_or_random, uuid_or_random}, Settings.SettingsFields}
+use Rattle.veritysetup.specs.declared.options.option_fault.OptionName.TheVariants.{Format, DataBlockSize, HashBlockSize, DataBlocks, HashOffset}
+use Rattle.veritysetup.specs.declared.options.option_fault.OptionFault.{OptionFault}
+use Rattle.veritysetup.specs.declared.options.option_fault.OptionFault.TheVariants.{BadNumber, UnknownHash, BadHashType, BadBlockSize, BadSalt}
+use Rattle.veritysetup.specs.declared.options.option_fault.OptionFault.TheVariants.{BadUuid, BadHashOffset, NoData, TooLarge, Overlap, BadRoot}
 use Rattle.verity_plan.specs.declared.plan_fault.PlanFault.TheVariants as plan
 
 -- what the tree is made by, with this salt if there is one, or the first fault of block sizes and salt

@@ -1,12 +1,11 @@
 -- What the texts of options stand for, one by one, with the defaults of veritysetup(8).
-use Rattle.std.specs.Prelude.{ℕ, Bool, true, false, List, [], replicate, take, drop, codes, Option, Some, None, option_map, if◌then◌else◌}
-use Rattle.std.specs.Prelude.{Result, ok_or}
+use Rattle.std.specs.Prelude.{ℕ, Bool, true, false, List, [], replicate, take, drop, codes, Option, Some, None, option_map, if◌then◌else◌, Result}
+use Rattle.std.specs.Prelude.{ok_or}
 use Rattle.{std.specs.Str.bytes_eq, uuid.specs.Text.parsed, verity_plan.specs.{Settings.most_salt, CheckedSettings.is_verity_block_size}}
 use Rattle.verity_hash.specs.declared.{algorithm.Algorithm.Algorithm, salting.SaltRule.TheVariants.Before}
 use Rattle.command_line.specs.Options.{number_of, number_or, salt_of}
 use Rattle.veritysetup.specs.{Options.{Uuids.random_uuid, Settings.read_root}, declared.options.option_fault.OptionName.OptionName}
-use Rattle.veritysetup.specs.declared.options.option_fault.OptionFault.{OptionFault, TheVariants.BadNumber}
-use Rattle.veritysetup.specs.declared.options.raw_options.RawOptions.{RawOptions}
+use Rattle.veritysetup.specs.declared.options.{option_fault.OptionFault.{OptionFault, TheVariants.BadNumber}, raw_options.RawOptions.RawOptions}
 
 -- the texts of the options, each None if it is not given
 pub record OptionTexts : Type 0 where

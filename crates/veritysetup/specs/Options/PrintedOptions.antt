@@ -1,8 +1,7 @@
 -- What a report says, given again as options (veritysetup(8)).
 use Rattle.std.specs.Prelude.{ℕ, Bool, false, not, List, [], ◌++◌, Option, Some, None, codes, unwrap_or, if◌then◌else◌}
 use Rattle.{std.specs.Fmt.decimal, verity_format.specs.Superblocks.SuperblockFields, verity_hash.specs.Hashing.name_of}
-use Rattle.verity_plan.specs.Settings.{type_number}
-use Rattle.veritysetup.specs.Options.{OptionTexts.{OptionTexts, superblock_uuid}, Settings.SettingsFields}
+use Rattle.{verity_plan.specs.Settings.type_number, veritysetup.specs.Options.{OptionTexts.{OptionTexts, superblock_uuid}, Settings.SettingsFields}}
 use Rattle.veritysetup.specs.Texts.Reports.{no_uuid_text, report_line, root_line, salt_text, title, uuid_text}
 
 -- the texts of a report's values as options, with this hash offset; without a superblock with `--no-superblock`, and

@@ -1,8 +1,7 @@
 -- The settings of a hash device, which the options choose (veritysetup(8), "format", "root_hash"; cryptsetup's on-disk
 -- format page). A root hash is written in hexadecimal digits of either case, two for each byte of a digest.
 use Rattle.std.specs.Prelude.{ℕ, ◌*◌, ◌%◌, ◌==◌, List, length, Option, None, if◌then◌else◌, ◌≡◌, Bool, Some}
-use Rattle.{std.specs.Result.result_ok, hex.specs.Hex.decode_of}
-use Rattle.verity_hash.specs.{Hashing.digest_len_of, declared.algorithm.Algorithm.Algorithm}
+use Rattle.{std.specs.Result.result_ok, hex.specs.Hex.decode_of, verity_hash.specs.{Hashing.digest_len_of, declared.algorithm.Algorithm.Algorithm}}
 use Rattle.verity_plan.specs.{Settings.rule_of, Plans.{PlanFields, base_of, offset_unit}, declared.hash_type.HashType.HashType}
 
 -- the bytes that the text of a root hash stands for, if it has two digits for each byte of a digest

@@ -1,13 +1,12 @@
 -- What the steps of a command answer when all is done: by which options of the line, and over which of its files.
 -- For the private functions; not needed to read a public contract.
-use Rattle.std.specs.Prelude.{◌≡◌, ◌↔◌, ℕ, Bool, true, false, List, [], ◌∷◌, map, Option, Some, None, Ok, option_map, IfSome, IsOkAnd}
-use Rattle.std.specs.Prelude.{IsTrue, is_some, not, ◌&&◌, string_bytes}
+use Rattle.std.specs.Prelude.{◌≡◌, ◌↔◌, ℕ, Bool, true, false, List, [], ◌∷◌, map, Option, Some, None, Ok, option_map, IfSome, IsOkAnd, IsTrue}
+use Rattle.std.specs.Prelude.{is_some, not, ◌&&◌, string_bytes}
 use Rattle.command_line.specs.{FileIdentities.PathsAreSameFile, declared.files.identity.FileIdentity.FileIdentity}
-use Rattle.veritysetup.specs.Options.{Choices.settings_of, OptionTexts.OptionTexts, Settings.{SettingsFields, read_root}}
-use Rattle.veritysetup.specs.{Program.Refusals.line_offset, Words.RawWords.root_word, declared.program.done.Done.Done}
-use Rattle.veritysetup.specs.declared.runs.{dump.Dumped.Dumped, file_names.FileNames.FileNames, format.Formatted.Formatted}
-use Rattle.veritysetup.specs.declared.{runs.verify.Verified.Verified, words.command_name.CommandName.TheVariants.{Format, Dump, Verify}}
-use Rattle.veritysetup.specs.declared.words.line.Line.{Line}
+use Rattle.veritysetup.specs.{Options.{Choices.settings_of, OptionTexts.OptionTexts, Settings.{SettingsFields, read_root}}, Words.RawWords.root_word}
+use Rattle.veritysetup.specs.{Program.Refusals.line_offset, declared.{program.done.Done.Done, runs.{dump.Dumped.Dumped, format.Formatted.Formatted}}}
+use Rattle.veritysetup.specs.declared.{runs.{file_names.FileNames.FileNames, verify.Verified.Verified}, words.line.Line.Line}
+use Rattle.veritysetup.specs.declared.words.command_name.CommandName.TheVariants.{Format, Dump, Verify}
 use Rattle.veritysetup.specs.declared.program.done.Done.TheVariants as done
 
 -- the texts of a line's options, and whether DATA and HASH are one file

@@ -1,10 +1,9 @@
 -- How a run of dump ends (veritysetup(8), "dump"; the statuses are this project's own).
 use Rattle.std.specs.Prelude.{◌≡◌, ℕ, List, Option, None, Result, Ok, Err}
 use Rattle.{std.specs.Io.KnownBytes.Keeps, verity_format.specs.Superblocks.{SuperblockFields, IsSuperblock}}
-use Rattle.verity_io.specs.Counting.{Change, Counts, TheDevice, failed_at}
+use Rattle.{verity_io.specs.Counting.{Change, Counts, TheDevice, failed_at}, veritysetup.specs.declared.runs.dump.Dumped.Dumped}
 use Rattle.veritysetup.specs.{Faults.{IsTold, result_status, side_of}, Texts.{Reports.{report_text, uuid_text}, TextChanges.TextChange}}
-use Rattle.veritysetup.specs.Runs.{HashDevice.superblock_at, StoredSuperblock.{IsSuperblockFault, ReadsSuperblock}}
-use Rattle.veritysetup.specs.declared.{fault.Fault.Fault, runs.dump.Dumped.Dumped}
+use Rattle.veritysetup.specs.{Runs.{HashDevice.superblock_at, StoredSuperblock.{IsSuperblockFault, ReadsSuperblock}}, declared.fault.Fault.Fault}
 use Rattle.command_line.specs.{Writing.WritesText, declared.writing.print_fault.PrintFault.PrintFault}
 use Rattle.veritysetup.specs.declared.fault.Fault.TheVariants as fault
 

@@ -3,9 +3,9 @@
 use Rattle.std.specs.Prelude.{◌≡◌, ℕ, ◌+◌, ◌*◌, ◌≤◌, ◌&&◌, ◌||◌, Bool, true, false, List, length, Option, Some, nat_le, nat_lt, slice_index}
 use Rattle.std.specs.Prelude.{if◌then◌else◌}
 use Rattle.{std.specs.Io.KnownBytes.Appends, verity_io.specs.Reading.HasRead, verity_format.specs.Superblocks.superblock_bytes}
-use Rattle.{verity_plan.specs.Plans.{end_place_of, superblock_size}, veritysetup.specs.Texts.Reports.{no_uuid_text, report_text, uuid_text}}
+use Rattle.{verity_plan.specs.Plans.{end_place_of, superblock_size}, veritysetup.specs.Runs.HashDevice.{superblock_at, superblock_for}}
+use Rattle.veritysetup.specs.{Texts.Reports.{no_uuid_text, report_text, uuid_text}, Options.Settings.SettingsFields}
 use Rattle.verity_blocks.specs.{Levels.{data_blocks, root}, TreeOnDevice.HoldsTree}
-use Rattle.veritysetup.specs.{Options.Settings.SettingsFields, Runs.HashDevice.{superblock_at, superblock_for}}
 
 -- the root hash of the tree above some data
 abbrev pub root_above : SettingsFields → List ℕ → List ℕ

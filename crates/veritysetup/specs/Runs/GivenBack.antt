@@ -1,8 +1,7 @@
 -- What verify is given. Two laws speak of it: verify accepts what format leaves, and data that verify accepts are true.
 use Rattle.std.specs.Prelude.{◌≡◌, ℕ, true, List, Some}
 use Rattle.{hex.specs.Hex.encode_lower, verity_plan.specs.Plans.IsPlan}
-use Rattle.veritysetup.specs.{Options.Settings.SettingsFields, declared.runs.verify_input.VerifyInput.VerifyInput}
-use Rattle.veritysetup.specs.declared.runs.verify_input.VerifyInput.TheVariants.{Stored, Given}
+use Rattle.veritysetup.specs.{Options.Settings.SettingsFields, declared.runs.verify_input.VerifyInput.{VerifyInput, TheVariants.{Stored, Given}}}
 
 -- the offset of the superblock that format wrote, and the digits of the root hash as the report of format has them; or
 -- settings with the same plan and the root hash, whether there is a superblock or not

@@ -1,8 +1,7 @@
 -- What the verdict of verify goes by: whoever has all of it the same gets the same verdict.
 use Rattle.std.specs.Prelude.{◌≡◌, ◌≢◌, ℕ, ◌-◌, ◌*◌, List, take, drop, None, Result, IfErr}
-use Rattle.verity_plan.specs.Plans.{PlanFields, end_place_of}
-use Rattle.veritysetup.specs.{Faults.side_of, Runs.{HashDevice.superblock_at, Verified.Trusts}, declared.fault.Fault.Fault}
-use Rattle.veritysetup.specs.declared.runs.verify_input.VerifyInput.{VerifyInput, TheVariants.{Stored, Given}}
+use Rattle.{verity_plan.specs.Plans.{PlanFields, end_place_of}, veritysetup.specs.{Faults.side_of, Runs.{HashDevice.superblock_at, Verified.Trusts}}}
+use Rattle.veritysetup.specs.declared.{runs.verify_input.VerifyInput.{VerifyInput, TheVariants.{Stored, Given}}, fault.Fault.Fault}
 use Rattle.veritysetup.specs.declared.fault.Fault.TheVariants as fault
 
 -- the bytes of a plan's hash area, fewer if the device ends within it

@@ -1,9 +1,8 @@
 -- What status 0 of verify stands for (veritysetup(8), "verify").
 use Rattle.std.specs.Prelude.{◌≡◌, ℕ, true, List, Some, Ok}
 use Rattle.{verity_format.specs.Superblocks.{SuperblockFields, IsSuperblock}, verity_io.specs.Reading.HasRead}
-use Rattle.{verity_plan.specs.Plans.{PlanFields, plan_at}, verity_blocks.specs.TreeOnDevice.HoldsTree}
-use Rattle.veritysetup.specs.{Options.Settings.read_root, Runs.HashDevice.superblock_at, declared.runs.verify_input.VerifyInput.VerifyInput}
-use Rattle.veritysetup.specs.declared.runs.verify_input.VerifyInput.TheVariants.{Stored, Given}
+use Rattle.{verity_plan.specs.Plans.{PlanFields, plan_at}, verity_blocks.specs.TreeOnDevice.HoldsTree, veritysetup.specs.Options.Settings.read_root}
+use Rattle.veritysetup.specs.{declared.runs.verify_input.VerifyInput.{TheVariants.{Stored, Given}, VerifyInput}, Runs.HashDevice.superblock_at}
 
 -- a superblock at this offset and the text of a root hash give the plan of a tree that stands after the superblock, and
 -- this root hash

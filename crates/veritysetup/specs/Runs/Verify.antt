@@ -1,13 +1,12 @@
 -- How a run of verify ends (veritysetup(8), "verify"; statuses and messages are this project's own).
 use Rattle.std.specs.Prelude.{◌≡◌, ℕ, true, List, Option, None, Result, Ok, Err, IfErr}
-use Rattle.verity_format.specs.Superblocks.{SuperblockFields, IsSuperblock}
-use Rattle.verity_io.specs.Counting.{Change, Counts, TheDevice, TheSource, failed_at}
-use Rattle.verity_plan.specs.{Plans.{PlanFields, plan_at}, declared.plan_fault.PlanFault.PlanFault}
+use Rattle.{verity_format.specs.Superblocks.{SuperblockFields, IsSuperblock}, verity_plan.specs.Plans.{PlanFields, plan_at}}
+use Rattle.{verity_io.specs.Counting.{Change, Counts, TheDevice, TheSource, failed_at}, verity_plan.specs.declared.plan_fault.PlanFault.PlanFault}
 use Rattle.verity_pass.specs.{Comparing.{CompareReads, Judges}, declared.comparing.CompareFault.CompareFault}
-use Rattle.veritysetup.specs.{Faults.{IsTold, result_status, side_of}, Options.Settings.read_root, Runs.HashDevice.superblock_at}
-use Rattle.veritysetup.specs.{Runs.{StoredSuperblock.{IsSuperblockFault, ReadsSuperblock}, Verified.Trusts}, declared.fault.Fault.Fault}
-use Rattle.veritysetup.specs.declared.runs.{verify.Verified.Verified as VerifiedOver, verify_input.VerifyInput.VerifyInput}
+use Rattle.veritysetup.specs.{Faults.{IsTold, result_status, side_of}, Options.Settings.read_root, Runs.{HashDevice.superblock_at, Verified.Trusts}}
+use Rattle.veritysetup.specs.{Runs.StoredSuperblock.{IsSuperblockFault, ReadsSuperblock}, declared.fault.Fault.Fault}
 use Rattle.veritysetup.specs.declared.runs.verify_input.VerifyInput.TheVariants.{Stored, Given}
+use Rattle.veritysetup.specs.declared.runs.{verify.Verified.Verified as VerifiedOver, verify_input.VerifyInput.VerifyInput}
 use Rattle.veritysetup.specs.declared.fault.Fault.TheVariants as fault
 use Rattle.veritysetup.specs.declared.options.option_fault.OptionFault.TheVariants as option
 

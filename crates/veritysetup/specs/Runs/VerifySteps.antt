@@ -1,10 +1,9 @@
 -- What a step of verify answers before the comparison, and what a device was verified by after it.
 -- For the private functions; not needed to read a public contract.
 use Rattle.std.specs.Prelude.{◌≡◌, ℕ, List, Option, Some, None, Result, Ok, Err}
-use Rattle.verity_plan.specs.Plans.{PlanFields}
+use Rattle.{verity_plan.specs.Plans.PlanFields, veritysetup.specs.declared.runs.verify_input.VerifyInput.{VerifyInput, TheVariants.{Stored, Given}}}
 use Rattle.veritysetup.specs.{Options.Settings.read_root, Runs.{Verify.{Refuses, RefusesStored}, Verified.{Trusts, Describes}}}
 use Rattle.veritysetup.specs.declared.{fault.Fault.Fault, runs.{trusted_tree.TrustedTree.TrustedTree, verify.Verified.Verified}}
-use Rattle.veritysetup.specs.declared.runs.verify_input.VerifyInput.{VerifyInput, TheVariants.{Stored, Given}}
 
 -- what the tree is compared by for an input, or why it is not
 abbrev pub IsTrustedTree : VerifyInput → List ℕ → Result TrustedTree Fault → Type 0

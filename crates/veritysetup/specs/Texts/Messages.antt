@@ -1,14 +1,12 @@
 -- The messages of veritysetup, one line each, this project's own. Level, block and child are counted from 0.
 use Rattle.std.specs.Prelude.{ℕ, List, [], ◌∷◌, codes}
-use Rattle.{std.specs.{Fmt.decimal, List.concat}, hex.specs.Hex.encode_lower}
+use Rattle.{std.specs.{Fmt.decimal, List.concat}, hex.specs.Hex.encode_lower, verity_format.specs.declared.super_fault.SuperFault.SuperFault}
 use Rattle.verity_pass.specs.declared.{building.BuildFault.BuildFault, comparing.CompareFault.CompareFault, part.Part.Part}
 use Rattle.verity_pass.specs.declared.part.Part.TheVariants.{Missing, Child, Spare}
-use Rattle.verity_format.specs.declared.super_fault.SuperFault.{SuperFault}
-use Rattle.veritysetup.specs.declared.options.option_fault.{OptionName.{OptionName, TheVariants.HashOffset}, OptionFault.OptionFault}
-use Rattle.veritysetup.specs.declared.options.option_fault.OptionName.TheVariants.{Format, DataBlockSize, HashBlockSize, DataBlocks}
-use Rattle.veritysetup.specs.declared.options.option_fault.OptionFault.TheVariants.{BadNumber, UnknownHash, BadHashType, BadBlockSize}
-use Rattle.veritysetup.specs.declared.options.option_fault.OptionFault.TheVariants.{BadSalt, BadUuid, BadHashOffset, NoData, TooLarge}
-use Rattle.veritysetup.specs.declared.options.option_fault.OptionFault.TheVariants.{Overlap, BadRoot}
+use Rattle.veritysetup.specs.declared.options.option_fault.{OptionName.OptionName, OptionFault.OptionFault}
+use Rattle.veritysetup.specs.declared.options.option_fault.OptionName.TheVariants.{HashOffset, Format, DataBlockSize, HashBlockSize, DataBlocks}
+use Rattle.veritysetup.specs.declared.options.option_fault.OptionFault.TheVariants.{BadNumber, UnknownHash, BadHashType, BadBlockSize, BadSalt}
+use Rattle.veritysetup.specs.declared.options.option_fault.OptionFault.TheVariants.{BadUuid, BadHashOffset, NoData, TooLarge, Overlap, BadRoot}
 use Rattle.verity_pass.specs.declared.building.BuildFault.TheVariants as build
 use Rattle.verity_pass.specs.declared.comparing.CompareFault.TheVariants as compare
 use Rattle.verity_format.specs.declared.super_fault.SuperFault.TheVariants as super

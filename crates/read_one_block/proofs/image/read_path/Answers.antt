@@ -1,5 +1,4 @@
-use Rattle.std.proofs.Common.{◌≡◌, ℕ, ◌*◌, ◌<◌, length, arith, ap, sym, ◌∙◌, refl}
-use Rattle.verity_plan.specs.{PlanCounts.level_count_of, Settings.fan}
+use Rattle.{std.proofs.Common.{◌≡◌, ℕ, ◌*◌, ◌<◌, length, arith, ap, sym, ◌∙◌, refl}, verity_plan.specs.{PlanCounts.level_count_of, Settings.fan}}
 use Rattle.verity_blocks.proofs.OpenBlocks.{ClosingBlocks.closing-below, DigestsInTurn.length-range}
 use Rattle.read_one_block.proofs.ReadLemmas.{closing-place, path-more, read-stored, run-within}
 use Rattle.read_one_block.proofs.image.read_path.Goals as goal

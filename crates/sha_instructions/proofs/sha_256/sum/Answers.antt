@@ -1,5 +1,5 @@
-use Rattle.{std.proofs.Common.{ap, ◌∙◌}, sha_instructions.proofs.Rounds256.{first_sum_is, second_sum_is}}
-use Rattle.sha_instructions.specs.{Sha256Vectors.{first_half, second_half}, Vectors.add}
+use Rattle.std.proofs.Common.{ap, ◌∙◌}
+use Rattle.sha_instructions.{proofs.Rounds256.{first_sum_is, second_sum_is}, specs.{Sha256Vectors.{first_half, second_half}, Vectors.add}}
 use Rattle.sha_instructions.proofs.sha_256.sum.Goals as goal
 
 pub returns : goal.returns

@@ -1,5 +1,4 @@
-use Rattle.std.proofs.{Common.{◌≡◌, ℕ, ◌+◌, ◌-◌, ◌<◌, ◌≤◌, length, ap, sym, ◌∙◌, arith, rules}, lemmas.Slice.overwrites}
-use Rattle.std.specs.List.{between}
+use Rattle.std.{proofs.{Common.{◌≡◌, ℕ, ◌+◌, ◌-◌, ◌<◌, ◌≤◌, length, ap, sym, ◌∙◌, arith, rules}, lemmas.Slice.overwrites}, specs.List.between}
 use Rattle.sha_lanes.proofs.{Pieces.piece_put, rows.put.Goals.{then-from-at, else-from-at, then-piece_end-row_end, else-piece_end-row_end}}
 use borrow.Rule.Slice.PartMut.{put_mid}
 use Rattle.sha_lanes.proofs.rows.put.Goals as goal

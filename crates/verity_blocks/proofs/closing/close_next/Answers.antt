@@ -1,15 +1,13 @@
 -- A hash block closes, or bytes may come.
-use Rattle.std.proofs.Common.{◌≡◌, ◌⊎◌, ℕ, ◌+◌, ◌-◌, ◌*◌, ◌/◌, ◌^◌, ◌<◌, ◌≤◌, ◌%◌, List, length, true, false, arith, refl, inl, inr, sym}
-use Rattle.std.proofs.{Common.{◌∙◌, ap}, lemmas.Bool.{cases_lt, Decides.nat_tests}}
-use Rattle.{verity_plan.{specs.Settings.fan, proofs.CountLemmas.mul_le}, verity_blocks.proofs.OpenBlocks.DigestsInTurn.IsCarrying-first}
-use Rattle.verity_blocks.specs.{Levels.data_blocks, ClosingOrder.blocks_before, Steps.{Feeding.{EndsWindow, Stands}, OpenBlocks.Adds}}
-use Rattle.verity_blocks.{specs.Windows.window_length, proofs.ClosingSteps.Advancing.{KeepsOpen-settled, Stands-ends, Stands-settled}}
-use Rattle.verity_blocks.proofs.ClosingSteps.Climbing.{climbs-closed, climbs-kept, climbs-past, handing-out, most_closed-all}
-use Rattle.verity_blocks.proofs.ClosingSteps.Climbing.{most_closed-early, most_closed-le, nothing-out}
-use Rattle.verity_blocks.proofs.{Windows.LastByte.{last-below, last-block}, Levels.CutBlocks.length-cut}
-use Rattle.verity_blocks.proofs.closing.close_next.Goals.{Joined-count-gt0, Joined-level-eq0, Then-level-most_closed, else-level-eq0}
-use Rattle.verity_blocks.proofs.closing.close_next.Goals.{then-level-eq0, then-count-gt0+then-count-wide-eq0, then-level-gt0}
-use Rattle.verity_blocks.proofs.closing.close_next.Goals.{else-level-gt0, then-count-gt0+else-count-wide-eq0, else-count-gt0}
+use Rattle.std.proofs.Common.{◌≡◌, ◌⊎◌, ℕ, ◌+◌, ◌-◌, ◌*◌, ◌/◌, ◌^◌, ◌<◌, ◌≤◌, ◌%◌, List, length, true, false, arith, refl, inl, inr, sym, ◌∙◌, ap}
+use Rattle.{std.proofs.lemmas.Bool.{cases_lt, Decides.nat_tests}, verity_plan.{specs.Settings.fan, proofs.CountLemmas.mul_le}}
+use Rattle.verity_blocks.{specs.{Steps.{Feeding.{EndsWindow, Stands}, OpenBlocks.Adds}, Windows.window_length}, proofs.Levels.CutBlocks.length-cut}
+use Rattle.verity_blocks.proofs.ClosingSteps.{Advancing.{KeepsOpen-settled, Stands-ends, Stands-settled}, Climbing.{most_closed-le, nothing-out}}
+use Rattle.verity_blocks.proofs.ClosingSteps.Climbing.{climbs-closed, climbs-kept, climbs-past, handing-out, most_closed-all, most_closed-early}
+use Rattle.verity_blocks.{proofs.{Windows.LastByte.{last-below, last-block}, OpenBlocks.DigestsInTurn.IsCarrying-first}, specs.Levels.data_blocks}
+use Rattle.verity_blocks.proofs.closing.close_next.Goals.{Joined-count-gt0, Joined-level-eq0, Then-level-most_closed, else-level-eq0, then-level-eq0}
+use Rattle.verity_blocks.proofs.closing.close_next.Goals.{then-count-gt0+then-count-wide-eq0, then-level-gt0, else-level-gt0}
+use Rattle.verity_blocks.{proofs.closing.close_next.Goals.{then-count-gt0+else-count-wide-eq0, else-count-gt0}, specs.ClosingOrder.blocks_before}
 use Rattle.verity_blocks.proofs.closing.close_next.Goals as goal
 
 -- the bytes that are in the window, as the code counts them

@@ -1,8 +1,7 @@
 -- The digest of the block that is left.
-use Rattle.std.proofs.Common.{◌≡◌, ℕ, ◌+◌, ◌-◌, ◌*◌, ◌<◌, List, length, take, drop, arith, refl, subst, sym, ◌∙◌, ap}
-use Rattle.{std.specs.Fork.slice_chunk, verity_plan.{specs.{PlanCounts.level_count_of, Settings.hash}, proofs.CountLemmas.mul_le}}
-use Rattle.verity_blocks.{specs.Steps.Feeding.Stands, proofs.ClosingSteps.{Asking.{left-root, top-left}, Climbing.nothing-out}}
-use Rattle.verity_blocks.proofs.OpenBlocks.OpenBlock.{hash-by, length-hash}
+use Rattle.std.{proofs.Common.{◌≡◌, ℕ, ◌+◌, ◌-◌, ◌*◌, ◌<◌, List, length, take, drop, arith, refl, subst, sym, ◌∙◌, ap}, specs.Fork.slice_chunk}
+use Rattle.{verity_plan.{specs.{PlanCounts.level_count_of, Settings.hash}, proofs.CountLemmas.mul_le}, verity_blocks.specs.Steps.Feeding.Stands}
+use Rattle.verity_blocks.proofs.{OpenBlocks.OpenBlock.{hash-by, length-hash}, ClosingSteps.{Asking.{left-root, top-left}, Climbing.nothing-out}}
 use Rattle.verity_blocks.proofs.closing.digest_at_the_top.Goals as goal
 
 pub root_of_fed-requires-clause-opened : goal.root_of_fed-requires-clause-opened

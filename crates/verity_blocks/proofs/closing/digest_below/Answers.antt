@@ -1,8 +1,8 @@
 -- The digest goes up level after level.
 use Rattle.{std.proofs.Common.{◌≡◌, ℕ, ◌-◌, ◌*◌, arith, ap, sym, ◌∙◌}, verity_plan.proofs.PlanLemmas.blocks-some}
-use Rattle.verity_blocks.specs.{ClosingOrder.blocks_before, Levels.data_blocks, Steps.Feeding.{last_window, windows_before}}
-use Rattle.verity_blocks.{specs.Windows.window_blocks, proofs.{ClosingSteps.Asking.IsAsking-first, Windows.LastByte.last-block}}
-use Rattle.verity_blocks.proofs.{Windows.RowsOfWindow.window-beside, Levels.CutBlocks.length-cut}
+use Rattle.verity_blocks.specs.{ClosingOrder.blocks_before, Levels.data_blocks, Steps.Feeding.{last_window, windows_before}, Windows.window_blocks}
+use Rattle.verity_blocks.proofs.{ClosingSteps.Asking.IsAsking-first, Windows.{LastByte.last-block, RowsOfWindow.window-beside}}
+use Rattle.verity_blocks.proofs.Levels.CutBlocks.{length-cut}
 use Rattle.verity_blocks.proofs.closing.digest_below.Goals as goal
 
 pub loop-level-init : goal.loop-level-init

@@ -1,7 +1,7 @@
 use Rattle.std.proofs.{Common.{◌≡◌, ℕ, ◌+◌, ◌-◌, ◌%◌, ◌<◌, ◌≤◌, [], List, get_or, length, arith, ap, ◌∙◌, inl}, lemmas.List.get_or_default}
-use Rattle.verity_plan.{proofs.{CountLemmas.mul_le, FanLemmas.fan-two}, specs.{PlanCounts.level_count_of, Plans.{IsPlan, PlanFields}}}
-use Rattle.{verity_plan.specs.Settings.fan, verity_blocks.proofs.OpenBlocks.{OpenBlock.length-hash, DigestsInTurn.IsCarrying-first}}
-use Rattle.verity_blocks.{specs.Steps.OpenBlocks.level_digest, proofs.ClosedLevel.{HasOpenBlocks-added, some-level}}
+use Rattle.verity_plan.{proofs.{CountLemmas.mul_le, FanLemmas.fan-two}, specs.{PlanCounts.level_count_of, Plans.{IsPlan, PlanFields}, Settings.fan}}
+use Rattle.verity_blocks.{proofs.OpenBlocks.{OpenBlock.length-hash, DigestsInTurn.IsCarrying-first}, specs.Steps.OpenBlocks.level_digest}
+use Rattle.verity_blocks.proofs.ClosedLevel.{HasOpenBlocks-added, some-level}
 use Rattle.verity_blocks.proofs.open_blocks.add_batch.Goals as goal
 
 -- a row's digest, as it is read from all of them

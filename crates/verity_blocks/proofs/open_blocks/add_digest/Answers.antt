@@ -1,5 +1,5 @@
-use Rattle.std.proofs.{Common.{◌≡◌, ◌<◌, length, arith, ap, ◌∙◌, inl, inr}, lemmas.Bool.Decides.nat_tests}
-use Rattle.{verity_plan.specs.Settings.slot_width, verity_blocks.proofs.{ClosedLevel.Adds-put, OpenBlocks.DigestsInTurn.slot-room}}
+use Rattle.{std.proofs.{Common.{◌≡◌, ◌<◌, length, arith, ap, ◌∙◌, inl, inr}, lemmas.Bool.Decides.nat_tests}, verity_plan.specs.Settings.slot_width}
+use Rattle.verity_blocks.proofs.{ClosedLevel.Adds-put, OpenBlocks.DigestsInTurn.slot-room}
 use Rattle.verity_blocks.proofs.open_blocks.add_digest.Goals as goal
 
 pub put_digest-requires : goal.put_digest-requires

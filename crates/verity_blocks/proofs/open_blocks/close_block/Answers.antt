@@ -1,5 +1,4 @@
-use Rattle.std.proofs.Common.{length, ap, ◌∙◌}
-use Rattle.verity_blocks.proofs.{ClosedLevel.IsCarrying-up, OpenBlocks.OpenBlock.{length-hash, hash-by}}
+use Rattle.{std.proofs.Common.{length, ap, ◌∙◌}, verity_blocks.proofs.{ClosedLevel.IsCarrying-up, OpenBlocks.OpenBlock.{length-hash, hash-by}}}
 use Rattle.verity_blocks.proofs.open_blocks.close_block.Goals as goal
 
 pub returns-clause-size : goal.returns-clause-size

@@ -1,6 +1,5 @@
 use Rattle.{std.proofs.Common.{length, arith, ap, ◌∙◌}, verity_plan.specs.Settings.slot_width}
-use Rattle.verity_blocks.proofs.{ClosedLevel.{IsAsking-up, cleared-is}, OpenBlocks.OpenBlock.{hash-by, length-hash}}
-use Rattle.verity_blocks.proofs.OpenBlocks.DigestsInTurn.{slot-room}
+use Rattle.verity_blocks.proofs.{ClosedLevel.{IsAsking-up, cleared-is}, OpenBlocks.{OpenBlock.{hash-by, length-hash}, DigestsInTurn.slot-room}}
 use Rattle.verity_blocks.proofs.open_blocks.digest_with.Goals as goal
 
 pub put_digest-requires : goal.put_digest-requires

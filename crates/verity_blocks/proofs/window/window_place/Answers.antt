@@ -1,8 +1,7 @@
 use Rattle.std.proofs.{Common.{◌≡◌, ◌∙◌, ℕ, ◌+◌, ◌-◌, ◌*◌, ◌/◌, ◌%◌, ◌<◌, ◌≤◌, ap, arith, sym}, lemmas.Nat.div-add-mod'}
 use Rattle.verity_plan.{specs.Plans.{IsPlan, PlanFields}, proofs.CountLemmas.mul_le}
-use Rattle.verity_blocks.specs.{ClosingOrder.blocks_before, Steps.Feeding.{windows_before, IsWindowPlace}}
-use Rattle.verity_blocks.{specs.Windows.{window_blocks, window_length}, proofs.Windows.LastByte.last-below}
-use Rattle.verity_blocks.proofs.Windows.RowsOfWindow.{placed-in-window, window-batch, windows-are}
+use Rattle.verity_blocks.specs.{ClosingOrder.blocks_before, Steps.Feeding.{windows_before, IsWindowPlace}, Windows.{window_blocks, window_length}}
+use Rattle.verity_blocks.proofs.Windows.{LastByte.last-below, RowsOfWindow.{placed-in-window, window-batch, windows-are}}
 use Rattle.verity_blocks.proofs.window.window_place.Goals as goal
 
 -- the place from its numbers: the last byte's data block, and what its window has

@@ -1,7 +1,6 @@
-use Rattle.std.proofs.Common.{ap, arith, sym, ◌<◌}
+use Rattle.{std.proofs.Common.{ap, arith, sym, ◌<◌}, verity_builders.proofs.join_builder.close_above.Goals.then-level-eq0-via-then-level-eq0}
 use Rattle.verity_plan.{specs.{Plans.level_count, PlanCounts.level_count_of, Settings.fan}, proofs.FanLemmas.{fan-some, fan-two}}
 use Rattle.verity_builders.proofs.Joins.JoinDigests.{ClosesAbove-adds, ClosesAbove-none, ClosesAbove-past, JoinStands-closed}
-use Rattle.verity_builders.proofs.join_builder.close_above.Goals.{then-level-eq0-via-then-level-eq0}
 use Rattle.verity_builders.proofs.join_builder.close_above.Goals.{then-level-eq0-via-else-level-eq0+then-level-levels}
 use Rattle.verity_builders.proofs.join_builder.close_above.Goals.{then-level-eq0-via-else-level-eq0+else-level-levels+then-progress-eq0}
 use Rattle.verity_builders.proofs.join_builder.close_above.Goals as goal

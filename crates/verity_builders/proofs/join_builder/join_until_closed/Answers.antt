@@ -2,12 +2,10 @@
 use Rattle.std.proofs.{Common.{List, length, take, ◌≡◌, ℕ, ◌+◌, ◌/◌, ◌<◌, ◌≤◌, ap, arith, refl, ◌%◌, inl, inr}, lemmas.Bool.cases_lt}
 use Rattle.std.proofs.{lemmas.Bool.Decides.nat_tests, Math.Nat.{zero-div, zero-mul}}
 use Rattle.verity_plan.{specs.PlanCounts.level_count_of, proofs.{FanLemmas.{digest_len_of-pos, fan-some}, PlanLemmas.blocks-some}}
-use Rattle.verity_builders.specs.Steps.Parts.{HasDigests, JoinStands}
-use Rattle.verity_builders.proofs.Joins.JoinDigests.{HasDigests-front, JoinsOn-closes, JoinsOn-full, JoinsOn-none, JoinsSoFar}
-use Rattle.verity_builders.proofs.Joins.JoinDigests.{JoinsSoFar-first, JoinsSoFar-more, next-taken, run-more, run-room}
-use Rattle.verity_builders.proofs.join_builder.join_until_closed.Goals.{After-loop-taken, After-take_digest-closes}
+use Rattle.verity_builders.{specs.Steps.Parts.{HasDigests, JoinStands}, proofs.Joins.JoinDigests.{JoinsSoFar-more, next-taken, run-more, run-room}}
+use Rattle.verity_builders.proofs.Joins.JoinDigests.{HasDigests-front, JoinsOn-closes, JoinsOn-full, JoinsOn-none, JoinsSoFar, JoinsSoFar-first}
+use Rattle.verity_builders.proofs.join_builder.join_until_closed.Goals.{After-loop-taken, After-take_digest-closes, else-is_empty-via-else-is_empty}
 use Rattle.verity_builders.proofs.join_builder.join_until_closed.Goals.{else-is_empty-via-then-is_empty+else-not-closes_above}
-use Rattle.verity_builders.proofs.join_builder.join_until_closed.Goals.{else-is_empty-via-else-is_empty}
 use Rattle.verity_builders.proofs.join_builder.join_until_closed.Goals as goal
 
 pub returns-then-close_above-clause-stands : goal.returns-then-close_above-clause-stands

@@ -1,8 +1,7 @@
-use Rattle.{std.proofs.Common.{List, ap, arith, length, sym, ◌∙◌, ◌≡◌, ℕ}, verity_plan.proofs.PlanLemmas.blocks_few}
-use Rattle.verity_plan.{specs.{Plans.level_count, PlanCounts.level_count_of, Settings.fan}, proofs.FanLemmas.fan-two}
+use Rattle.{std.proofs.Common.{List, ap, arith, length, sym, ◌∙◌, ◌≡◌, ℕ}, verity_builders.proofs.join_builder.take_digest.Goals.After-add_digest}
+use Rattle.verity_plan.{proofs.{PlanLemmas.blocks_few, FanLemmas.fan-two}, specs.{Plans.level_count, PlanCounts.level_count_of, Settings.fan}}
 use Rattle.verity_blocks.{specs.Steps.OpenBlocks.{Adds, HasOpenBlocks, level_digest}, proofs.OpenBlocks.DigestsInTurn.IsCarrying-first}
 use Rattle.verity_builders.proofs.Joins.JoinDigests.{JoinStands-alone, JoinStands-full, JoinStands-room}
-use Rattle.verity_builders.proofs.join_builder.take_digest.Goals.{After-add_digest}
 use Rattle.verity_builders.proofs.join_builder.take_digest.Goals as goal
 
 pub overflow_add-progress : goal.overflow_add-progress

@@ -1,6 +1,5 @@
-use Rattle.std.{proofs.Common.{◌≡◌, ◌*◌, ℕ, arith, ap, sym, ◌∙◌}, specs.Prelude.{Ok, Err}}
-use Rattle.verity_plan.{specs.{Plans.plan_for_bytes, Settings.TreeSettingsFields}, proofs.PlanLemmas.blocks_few}
-use Rattle.verity_builders.specs.Parts.{HasPart, first_block, plan_of_part}
+use Rattle.{verity_plan.{specs.{Plans.plan_for_bytes, Settings.TreeSettingsFields}, proofs.PlanLemmas.blocks_few}, std.specs.Prelude.{Ok, Err}}
+use Rattle.{verity_builders.specs.Parts.{HasPart, first_block, plan_of_part}, std.proofs.Common.{◌≡◌, ◌*◌, ℕ, arith, ap, sym, ◌∙◌}}
 use Rattle.verity_builders.proofs.Parts.PlanOfPart.{first_block-by_count, has-part, plan_of_part-made, wanted-by_count}
 use Rattle.verity_builders.proofs.part_builder.own_tree.Goals.{After-data_block-block, After-for_bytes, After-blocks_in_part_of-count}
 use Rattle.verity_builders.proofs.part_builder.own_tree.Goals as goal

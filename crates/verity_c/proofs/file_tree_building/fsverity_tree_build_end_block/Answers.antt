@@ -1,6 +1,6 @@
 use Rattle.{std.proofs.Common.{ℤ, Result, ap, of_z, sym, to_z, w32, ◌∙◌}, verity_plan.specs.Settings.TreeSettingsFields}
-use Rattle.verity_c_api.specs.{Statuses.{fault_of_feed, fault_status, status_of}, declared.fault.Fault.Fault}
-use Rattle.{verity_c_api.proofs.StatusLemmas.fault_status-fits, verity_c.proofs.FileTreeLemmas.{with_last_block-fault, with_last_block-ok}}
+use Rattle.verity_c_api.{specs.{Statuses.{fault_of_feed, fault_status, status_of}, declared.fault.Fault.Fault}, proofs.StatusLemmas.fault_status-fits}
+use Rattle.verity_c.proofs.FileTreeLemmas.{with_last_block-fault, with_last_block-ok}
 use Rattle.verity_c.proofs.file_tree_building.fsverity_tree_build_end_block.Goals as goal
 
 pub returns-in-Ok-end_block-clause-status : goal.returns-in-Ok-end_block-clause-status

@@ -1,8 +1,8 @@
 use Rattle.std.proofs.Common.{◌≡◌, ◌∙◌, ℕ, ℤ, Bool, true, false, Err, Ok, Result, ap, if◌then◌else◌, length, of_z, refl, to_z, w32}
-use Rattle.{std.specs.Prelude.{◌==◌, not}, verity_plan.specs.{Plans.PlanFields, Settings.digest_len}}
-use Rattle.{verity_builders.specs.Parts.join_fault, verity_c_api.proofs.StatusLemmas.fault_status-fits}
-use Rattle.verity_c_api.specs.{Building.unless, Parts.{join_builder_of, with_join_memory, with_joined, with_joined_file}}
-use Rattle.verity_c_api.specs.{Statuses.status_of, declared.{build.VerityJoin.VerityJoin, fault.Fault.{Fault, TheVariants.{Length, Root}}}}
+use Rattle.{std.specs.Prelude.{◌==◌, not}, verity_plan.specs.{Plans.PlanFields, Settings.digest_len}, verity_builders.specs.Parts.join_fault}
+use Rattle.verity_c_api.{proofs.StatusLemmas.fault_status-fits, specs.{Building.unless, Statuses.status_of, declared.build.VerityJoin.VerityJoin}}
+use Rattle.verity_c_api.specs.{Parts.{join_builder_of, with_join_memory, with_joined, with_joined_file}, declared.fault.Fault.Fault}
+use Rattle.verity_c_api.specs.declared.fault.Fault.TheVariants.{Length, Root}
 use Rattle.verity_c.proofs.joins.verity_join_end.Goals as goal
 
 -- another buffer of the same length has no fault of its own

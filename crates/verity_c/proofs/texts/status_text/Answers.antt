@@ -1,5 +1,5 @@
-use Rattle.std.proofs.Common.{◌≡◌, ℕ, ℤ, pos, Bool, false, Option, Some, if◌then◌else◌, arith, ap, of_z, sym, to_z, w32, ◌∙◌}
-use Rattle.std.{proofs.lemmas.{Bool.Decides.nat_tests, Int.to_z-of_z}, specs.Prelude.{◌==◌, codes, int_lt, unsigned_abs}}
+use Rattle.std.proofs.{Common.{◌≡◌, ℕ, ℤ, pos, Bool, false, Option, Some, if◌then◌else◌, arith, ap, of_z, sym, to_z, w32, ◌∙◌}, lemmas.Int.to_z-of_z}
+use Rattle.std.{proofs.lemmas.Bool.Decides.nat_tests, specs.Prelude.{◌==◌, codes, int_lt, unsigned_abs}}
 use Rattle.verity_c_api.specs.Texts.{fault_numbered, text_of_fault, text_of_fault_or_none, text_of_number, text_of_status}
 use Rattle.verity_c_api.specs.declared.fault.Fault.{Fault}
 use Rattle.verity_c.proofs.texts.status_text.Goals as goal

@@ -1,11 +1,9 @@
-use Rattle.std.proofs.Common.{◌≡◌, ◌∙◌, ◌+◌, ◌*◌, ◌-◌, ◌/◌, ◌^◌, ℕ, Option, Some, None, true, false, arith, ap, inl, inr, refl, sym}
-use Rattle.std.{proofs.{Common.zero-add, lemmas.Bool.{cases_lt, Decides.nat_tests}}, specs.Prelude.{◌==◌, ◌||◌, MatchOption, Result, Ok}}
-use Rattle.verity_plan.specs.{Plans.{PlanFields, start_byte_of}, Settings.fan}
+use Rattle.std.proofs.Common.{◌≡◌, ◌∙◌, ◌+◌, ◌*◌, ◌-◌, ◌/◌, ◌^◌, ℕ, Option, Some, None, true, false, arith, ap, inl, inr, refl, sym, zero-add}
+use Rattle.std.{proofs.lemmas.Bool.{cases_lt, Decides.nat_tests}, specs.Prelude.{◌==◌, ◌||◌, MatchOption, Result, Ok}}
+use Rattle.{verity_plan.specs.{Plans.{PlanFields, start_byte_of}, Settings.fan}, verity_builders.specs.Feeding.{HasLast, IsPlaced, feed_fault}}
 use Rattle.verity_blocks.specs.{ClosingOrder.blocks_before, declared.hash_block.HashBlock.HashBlock}
-use Rattle.verity_builders.specs.Feeding.{HasLast, IsPlaced, feed_fault}
-use Rattle.verity_c_api.{proofs.{AnswerLemmas.{match-said, says-of}, BuildingLemmas.IsFedTo-at}, specs.Answers.value_or}
-use Rattle.verity_c_api.specs.Building.{builder_of, fed_by, last_in, last_index, last_of, with_piece}
-use Rattle.verity_c_api.specs.declared.{build.VerityBuild.VerityBuild, fault.Fault.Fault}
+use Rattle.verity_c_api.{proofs.{AnswerLemmas.{match-said, says-of}, BuildingLemmas.IsFedTo-at}, specs.{Answers.value_or, declared.fault.Fault.Fault}}
+use Rattle.verity_c_api.specs.{Building.{builder_of, fed_by, last_in, last_index, last_of, with_piece}, declared.build.VerityBuild.VerityBuild}
 use Rattle.verity_c.proofs.tree_building.verity_build_last_block.Goals as goal
 
 pub returns-clause-block : goal.returns-clause-block

@@ -1,6 +1,6 @@
-use Rattle.{std.proofs.Common.{◌∙◌, sym}, verity_c_api.proofs.ParameterLemmas.{file_settings-made, made-data_least, plan-made}}
-use Rattle.verity_c_api.proofs.{PathLengthLemmas.{file_memory-most, memory-most}, LongestPaths.{longest_file_plan, longest_plan}}
-use Rattle.verity_c_api.proofs.LongestPaths.{longest, longest-memory, longest-planned, longest_file, longest_file-made, longest_file-memory}
+use Rattle.{std.proofs.Common.{◌∙◌, sym}, verity_c_api.proofs.LongestPaths.{longest_file-made, longest_file-memory}}
+use Rattle.verity_c_api.proofs.{ParameterLemmas.{file_settings-made, made-data_least, plan-made}, PathLengthLemmas.{file_memory-most, memory-most}}
+use Rattle.verity_c_api.proofs.LongestPaths.{longest_file_plan, longest_plan, longest, longest-memory, longest-planned, longest_file}
 use Rattle.verity_c_api.proofs.laws.memories_are_short.Goals as goal
 
 pub returns-clause-verity : goal.returns-clause-verity

@@ -1,7 +1,7 @@
-use Rattle.{std.proofs.Common.{◌∙◌, sym}, verity_c_api.proofs.PathLengthLemmas.{file_path-most, path-most}}
+use Rattle.std.proofs.Common.{◌∙◌, sym}
+use Rattle.verity_c_api.proofs.{PathLengthLemmas.{file_path-most, path-most}, LongestPaths.{longest_file_plan, longest_plan}}
 use Rattle.verity_c_api.proofs.ParameterLemmas.{file_plan-made, file_settings-made, made-data_least, made-hash_block, plan-made}
 use Rattle.verity_c_api.proofs.LongestPaths.{longest, longest-path, longest-planned, longest_file, longest_file-path, longest_file-planned}
-use Rattle.verity_c_api.proofs.LongestPaths.{longest_file_plan, longest_plan}
 use Rattle.verity_c_api.proofs.laws.paths_are_short.Goals as goal
 
 pub returns-clause-verity : goal.returns-clause-verity

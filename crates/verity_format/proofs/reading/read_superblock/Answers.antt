@@ -1,6 +1,6 @@
 -- The tests are made in their order, and bytes that pass them all say what they were read as.
-use Rattle.std.proofs.Common.{◌≡◌, ◌*◌, ◌<◌, nat_le, nat_lt, true, false, None, rules, arith, refl, sym, ◌∙◌}
-use Rattle.{std.proofs.lemmas.{Bool.Decides.nat_tests, Result.err_from_is_err_and}, verity_io.specs.Writing.most_bytes}
+use Rattle.std.proofs.{Common.{◌≡◌, ◌*◌, ◌<◌, nat_le, nat_lt, true, false, None, rules, arith, refl, sym, ◌∙◌}, lemmas.Bool.Decides.nat_tests}
+use Rattle.{std.proofs.lemmas.Result.err_from_is_err_and, verity_io.specs.Writing.most_bytes}
 use Rattle.verity_format.specs.{Superblocks.number_at, CheckedSuperblocks.first_failed, SuperblockSteps.type_tests}
 use Rattle.verity_format.proofs.ReadLemmas.{IsSuperblock-made, superblock_fault-blocks, superblock_fault-settings, superblock_of-none}
 use Rattle.verity_format.proofs.reading.read_superblock.Goals as goal

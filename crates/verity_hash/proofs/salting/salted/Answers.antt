@@ -1,7 +1,6 @@
 -- The zeros after the salt pad it to whole input blocks.
-use Rattle.std.proofs.Common.{ℕ, List, ◌-◌, ◌%◌, ◌++◌, length, take, replicate, ap, sym, ◌∙◌}
-use Rattle.verity_hash.specs.{Hashing.{hash_of, input_block_of, salted_hash}, declared.salting.SaltRule.SaltRule}
-use Rattle.verity_hash.proofs.WithZeros.{with_zeros-next_multiple_of, input_block_of-bounds}
+use Rattle.{std.proofs.Common.{ℕ, List, ◌-◌, ◌%◌, ◌++◌, length, take, replicate, ap, sym, ◌∙◌}, verity_hash.specs.declared.salting.SaltRule.SaltRule}
+use Rattle.verity_hash.{proofs.WithZeros.{with_zeros-next_multiple_of, input_block_of-bounds}, specs.Hashing.{hash_of, input_block_of, salted_hash}}
 use Rattle.verity_hash.proofs.salting.salted.Goals as goal
 
 pub returns-in-PaddedBefore : goal.returns-in-PaddedBefore

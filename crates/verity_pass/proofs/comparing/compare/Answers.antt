@@ -1,6 +1,5 @@
 use Rattle.std.proofs.{Common.{sym, ◌∙◌, refl}, lemmas.{List.Elements.All-nil, Slice.Eq.bytes_eq-Decides}}
-use Rattle.verity_pass.proofs.Passes.ComparedPass.{comes-to, judges-differs, judges-right, judges-root, judges-short}
-use Rattle.verity_pass.proofs.PathSteps.{bytes_eq-false}
+use Rattle.verity_pass.proofs.{Passes.ComparedPass.{comes-to, judges-differs, judges-right, judges-root, judges-short}, PathSteps.bytes_eq-false}
 use Rattle.verity_pass.proofs.comparing.compare.Goals as goal
 
 pub returns-then-eq-clause-verdict : goal.returns-then-eq-clause-verdict

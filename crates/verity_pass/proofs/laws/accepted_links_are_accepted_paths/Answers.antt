@@ -1,5 +1,4 @@
-use Rattle.std.proofs.Common.{◌≡◌, suc, ◌+◌, arith}
-use Rattle.verity_pass.proofs.Paths.AcceptedLinks.{AreHashBlocks, accepted-linked, linked-accepted}
+use Rattle.{std.proofs.Common.{◌≡◌, suc, ◌+◌, arith}, verity_pass.proofs.Paths.AcceptedLinks.{AreHashBlocks, accepted-linked, linked-accepted}}
 use Rattle.verity_pass.proofs.laws.accepted_links_are_accepted_paths.Goals as goal
 
 pub returns : goal.returns

@@ -1,6 +1,5 @@
-use Rattle.std.proofs.{Common.{◌≡◌, ℕ, ◌+◌, ◌*◌, ◌%◌, ◌<◌, ◌≤◌, arith, ◌∙◌}, lemmas.Nat.mod_below}
-use Rattle.verity_plan.{proofs.FanLemmas.fan-some, specs.Settings.{TreeSettingsFields, digest_len, fan, slot_width}}
-use Rattle.verity_pass.proofs.Devices.StoredBlocks.{digest-room}
+use Rattle.{std.proofs.{Common.{◌≡◌, ℕ, ◌+◌, ◌*◌, ◌%◌, ◌<◌, ◌≤◌, arith, ◌∙◌}, lemmas.Nat.mod_below}, verity_plan.proofs.FanLemmas.fan-some}
+use Rattle.{verity_pass.proofs.Devices.StoredBlocks.digest-room, verity_plan.specs.Settings.{TreeSettingsFields, digest_len, fan, slot_width}}
 use Rattle.verity_pass.proofs.link.check_link.Goals as goal
 
 -- the digest of a block is within the hash block above it

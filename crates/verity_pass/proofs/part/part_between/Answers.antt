@@ -1,8 +1,7 @@
-use Rattle.std.proofs.Common.{◌≡◌, List, ℕ, ◌+◌, ◌-◌, ◌*◌, ◌<◌, ◌≤◌, min, take, drop, arith, sym, ap, ◌∙◌, below_more, refl}
-use Rattle.{std.specs.{Prelude.{find, not, None, Option, Some}, Str.bytes_eq, List.range_with_len}, verity_plan.proofs.FanLemmas.fan-some}
-use Rattle.verity_plan.specs.{Plans.PlanFields, PlanCounts.count_under, Settings.{TreeSettingsFields, digest_len, fan, slot_width}}
-use Rattle.verity_pass.specs.Verdicts.{digest_in, first_slot, part_at}
-use Rattle.verity_pass.proofs.Devices.StoredBlocks.{digest-room, find-range, find-range_none, first-child}
+use Rattle.std.{proofs.Common.{◌≡◌, List, ℕ, ◌+◌, ◌-◌, ◌*◌, ◌<◌, ◌≤◌, min, take, drop, arith, sym, ap, ◌∙◌, below_more, refl}, specs.Str.bytes_eq}
+use Rattle.{std.specs.{Prelude.{find, not, None, Option, Some}, List.range_with_len}, verity_pass.specs.Verdicts.{digest_in, first_slot, part_at}}
+use Rattle.verity_plan.{specs.{Settings.{TreeSettingsFields, digest_len, fan, slot_width}, Plans.PlanFields}, proofs.FanLemmas.fan-some}
+use Rattle.{verity_pass.proofs.Devices.StoredBlocks.{digest-room, find-range, find-range_none, first-child}, verity_plan.specs.PlanCounts.count_under}
 use Rattle.verity_pass.proofs.part.part_between.Goals as goal
 
 pub overflow_mul-first : goal.overflow_mul-first

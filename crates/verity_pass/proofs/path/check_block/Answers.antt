@@ -1,8 +1,8 @@
-use Rattle.std.proofs.Common.{◌≡◌, ◌+◌, ◌*◌, ◌%◌, ◌<◌, ◌≤◌, below_more, length, drop, length-drop, arith, ap, sym, ◌∙◌}
-use Rattle.{std.proofs.lemmas.{List.length-take-le, Nat.mod_below, Slice.Eq.bytes_eq-Decides}, verity_plan.specs.Settings.{fan, hash}}
+use Rattle.std.proofs.{Common.{◌≡◌, ◌+◌, ◌*◌, ◌%◌, ◌<◌, ◌≤◌, below_more, length, drop, length-drop, arith, ap, sym, ◌∙◌}, lemmas.List.length-take-le}
+use Rattle.{std.proofs.lemmas.{Nat.mod_below, Slice.Eq.bytes_eq-Decides}, verity_plan.specs.PlanCounts.level_count_of}
+use Rattle.verity_plan.{specs.Settings.{fan, hash}, proofs.{CountLemmas.mul_le, PlanLemmas.store_few, IndexLemmas.quotient-next}}
 use Rattle.{verity_blocks.proofs.OpenBlocks.{OpenBlock.hash-by, DigestsInTurn.range-is_run}, verity_pass.specs.Paths.HoldsAt}
-use Rattle.verity_plan.{proofs.{CountLemmas.mul_le, PlanLemmas.store_few, IndexLemmas.quotient-next}, specs.PlanCounts.level_count_of}
-use Rattle.verity_pass.proofs.{Devices.StoredBlocks.digest-room, PathSteps.{bytes_eq-false, chain-more, digest_above-top, read-is}}
+use Rattle.verity_pass.proofs.{PathSteps.{bytes_eq-false, chain-more, digest_above-top, read-is}, Devices.StoredBlocks.digest-room}
 use Rattle.verity_pass.proofs.path.check_block.Goals as goal
 
 pub overflow_mul-levels : goal.overflow_mul-levels

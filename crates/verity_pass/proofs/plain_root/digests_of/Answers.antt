@@ -2,8 +2,7 @@
 use Rattle.std.proofs.Common.{◌≡◌, ℕ, ◌+◌, ◌-◌, ◌*◌, ◌≤◌, List, ◌++◌, drop, map, min, replicate, take, arith, sym, ◌∙◌, ap, length}
 use Rattle.std.{proofs.lemmas.List.{length-take, take_all}, specs.{List.range_with_len, Int.div_ceil}}
 use Rattle.verity_plan.{specs.Settings.hash, proofs.{CountLemmas.mul-lt_div_ceil, FanLemmas.some_data}}
-use Rattle.verity_blocks.specs.{Levels.block_at, Steps.PlainRoots.digest_of_block}
-use Rattle.verity_blocks.proofs.Levels.CutBlocks.{map-hash-cut, mapped_more, take-run}
+use Rattle.verity_blocks.{specs.{Levels.block_at, Steps.PlainRoots.digest_of_block}, proofs.Levels.CutBlocks.{map-hash-cut, mapped_more, take-run}}
 use Rattle.verity_pass.proofs.plain_root.digests_of.Goals as goal
 
 -- a run of the bytes, filled up with zeros

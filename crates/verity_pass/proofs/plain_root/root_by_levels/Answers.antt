@@ -1,7 +1,7 @@
 -- The root above the digests of the data blocks.
-use Rattle.std.proofs.{Common.{◌≡◌, ◌<◌, ℕ, List, map, length, IfOk, arith, sym, ◌∙◌, ap, refl, subst}, lemmas.List.length-map}
-use Rattle.{std.specs.Int.div_ceil, verity_plan.proofs.PlanLemmas.blocks-some, verity_pass.proofs.RootLevels.root-digests}
-use Rattle.verity_plan.{specs.{Settings.{TreeSettingsFields, hash}, Plans.{PlanFields, IsPlan}}, proofs.FanLemmas.fan-two}
+use Rattle.std.{proofs.{Common.{◌≡◌, ◌<◌, ℕ, List, map, length, IfOk, arith, sym, ◌∙◌, ap, refl, subst}, lemmas.List.length-map}, specs.Int.div_ceil}
+use Rattle.verity_plan.{proofs.{PlanLemmas.blocks-some, FanLemmas.fan-two}, specs.{Settings.{TreeSettingsFields, hash}, Plans.{PlanFields, IsPlan}}}
+use Rattle.verity_pass.proofs.RootLevels.{root-digests}
 use Rattle.verity_blocks.{specs.{Levels.{cut, data_blocks}, Steps.PlainRoots.root_of_digests}, proofs.Levels.CutBlocks.length-cut}
 use Rattle.verity_pass.proofs.plain_root.root_by_levels.Goals as goal
 

@@ -1,7 +1,6 @@
 -- Each level up is shorter and has the same root; a single digest is the root.
 use Rattle.std.proofs.{Common.{◌≡◌, ◌<◌, ◌≤◌, length, arith, sym, ◌∙◌, ap}, lemmas.List.get_or_read}
-use Rattle.verity_plan.{specs.Settings.fan, proofs.CountLemmas.{div_ceil-pos, div_ceil-lt}}
-use Rattle.verity_blocks.specs.Steps.PlainRoots.{root_of_digests}
+use Rattle.{verity_plan.{specs.Settings.fan, proofs.CountLemmas.{div_ceil-pos, div_ceil-lt}}, verity_blocks.specs.Steps.PlainRoots.root_of_digests}
 use Rattle.verity_pass.proofs.RootLevels.{length-above, root_of_digests-up, root_of_digests-one}
 use Rattle.verity_pass.proofs.plain_root.root_of_digests.Goals as goal
 

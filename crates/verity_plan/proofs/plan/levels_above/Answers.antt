@@ -1,7 +1,6 @@
-use Rattle.std.{proofs.Common.{◌≡◌, ℕ, ◌+◌, ◌-◌, ◌/◌, ◌^◌, ◌<◌, arith, sym, ◌∙◌, ap}, specs.Int.div_ceil}
 use Rattle.verity_plan.proofs.{FanLemmas.exponent-is, CountLemmas.{div_ceil-below, div_ceil-half, div_ceil-pos, div_ceil-lt}}
-use Rattle.verity_plan.proofs.{PlaceLemmas.blocks_from-level, PlanLemmas.{count-more, levels-more, levels-all}}
-use Rattle.verity_plan.specs.Plans.{level_count, blocks_from}
+use Rattle.{verity_plan.proofs.{PlaceLemmas.blocks_from-level, PlanLemmas.{count-more, levels-more, levels-all}}, std.specs.Int.div_ceil}
+use Rattle.{verity_plan.specs.Plans.{level_count, blocks_from}, std.proofs.Common.{◌≡◌, ℕ, ◌+◌, ◌-◌, ◌/◌, ◌^◌, ◌<◌, arith, sym, ◌∙◌, ap}}
 use Rattle.verity_plan.proofs.plan.levels_above.Goals as goal
 
 pub levels-preserved : goal.levels-preserved

@@ -1,6 +1,5 @@
-use Rattle.{std.proofs.Common.{subst, sym}, verity_blocks.specs.Levels.data_blocks}
-use Rattle.veritysetup.specs.Runs.{Format.formatted_device, Formatted.IsFormattedDevice}
-use Rattle.veritysetup.proofs.{FormattedLemmas.{formatted-same, written-formatted}, SettingsLemmas.AreValid}
+use Rattle.{std.proofs.Common.{subst, sym}, verity_blocks.specs.Levels.data_blocks, veritysetup.proofs.SettingsLemmas.AreValid}
+use Rattle.veritysetup.{specs.Runs.{Format.formatted_device, Formatted.IsFormattedDevice}, proofs.FormattedLemmas.{formatted-same, written-formatted}}
 use Rattle.veritysetup.proofs.laws.formatted_devices_are_written.Goals as goal
 
 pub returns : goal.returns

@@ -1,9 +1,8 @@
-use Rattle.std.proofs.Common.{◌≡◌, ◌∙◌, ℕ, ◌+◌, ◌*◌, ◌/◌, ◌%◌, ◌-◌, ◌<◌, ◌≤◌, ◌&&◌, ◌||◌, Bool, true, false, List, length, take, cond, Some}
-use Rattle.std.proofs.{Common.{None, nat_le, arith, ap, refl, sym, subst}, Math.Nat.mod-eq-sub-div-mul, lemmas.Bool.Decides.nat_tests}
-use Rattle.{std.proofs.lemmas.List.{ext_get_or, get_or-take, length-take-le}, verity_io.specs.Writing.most_bytes}
-use Rattle.verity_plan.specs.Plans.{base_of, end_place_of, offset_unit}
+use Rattle.std.proofs.Common.{◌≡◌, ◌∙◌, ℕ, ◌+◌, ◌*◌, ◌/◌, ◌%◌, ◌-◌, ◌<◌, ◌≤◌, ◌&&◌, ◌||◌, Bool, true, false, List, length, take, cond, Some, None}
+use Rattle.std.proofs.{Common.{nat_le, arith, ap, refl, sym, subst}, Math.Nat.mod-eq-sub-div-mul, lemmas.Bool.Decides.nat_tests}
+use Rattle.{verity_plan.specs.Plans.{base_of, end_place_of, offset_unit}, std.proofs.lemmas.List.{ext_get_or, get_or-take, length-take-le}}
 use Rattle.veritysetup.specs.{Options.Settings.SettingsFields, Runs.Formatted.{IsFormattedDevice, is_within, is_written}}
-use Rattle.veritysetup.proofs.{AcceptedLemmas.verified-back, SettingsLemmas.{AreValid, superblock-before}}
+use Rattle.{veritysetup.proofs.{AcceptedLemmas.verified-back, SettingsLemmas.{AreValid, superblock-before}}, verity_io.specs.Writing.most_bytes}
 use Rattle.veritysetup.proofs.laws.one_file_keeps_its_data.Goals as goal
 
 -- the tree doesn't begin before the hash offset

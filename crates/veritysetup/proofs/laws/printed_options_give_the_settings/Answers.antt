@@ -1,12 +1,11 @@
-use Rattle.std.proofs.Common.{◌≡◌, ◌⊎◌, Bool, List, Option, ap, cond, false, inl, inr, refl, subst, sym, true, ◌∙◌, ℕ}
-use Rattle.{hex.specs.Hex.encode_lower, verity_blocks.specs.Levels.data_blocks, veritysetup.proofs.SettingsLemmas.AreValid}
-use Rattle.verity_format.{specs.Superblocks.{SuperblockFields, superblock_bytes}, proofs.SuperblockLemmas.one-superblock}
-use Rattle.veritysetup.specs.Options.{Choices.settings_of, OptionTexts.superblock_uuid}
-use Rattle.veritysetup.specs.Options.{PrintedOptions.{printed_options, report_of_options, without_root}, Settings.SettingsFields}
+use Rattle.{std.proofs.Common.{◌≡◌, ◌⊎◌, Bool, List, Option, ap, cond, false, inl, inr, refl, subst, sym, true, ◌∙◌, ℕ}, hex.specs.Hex.encode_lower}
+use Rattle.{verity_blocks.specs.Levels.data_blocks, veritysetup.proofs.ResumedLemmas.{begun-formatted, keeps-refl}}
+use Rattle.veritysetup.{proofs.SettingsLemmas.AreValid, specs.Options.{Choices.settings_of, OptionTexts.superblock_uuid, Settings.SettingsFields}}
+use Rattle.veritysetup.specs.{Options.PrintedOptions.{printed_options, report_of_options, without_root}, Runs.Resumed.KeepsOthers}
 use Rattle.veritysetup.specs.Runs.{Formatted.{IsFormattedDevice, root_above}, HashDevice.{superblock_at, superblock_for}}
-use Rattle.veritysetup.specs.{Runs.Resumed.KeepsOthers, Texts.Reports.{no_uuid_text, report_text, uuid_text}}
-use Rattle.veritysetup.proofs.{AcceptedLemmas.{root-back, superblock-back}, ChoiceLemmas.one-chosen, FormattedLemmas.formatted-same}
-use Rattle.veritysetup.proofs.{PrintedOptionLemmas.{printed-back, verified-options}, ResumedLemmas.{begun-formatted, keeps-refl}}
+use Rattle.veritysetup.{specs.Texts.Reports.{no_uuid_text, report_text, uuid_text}, proofs.AcceptedLemmas.{root-back, superblock-back}}
+use Rattle.veritysetup.proofs.{ChoiceLemmas.one-chosen, FormattedLemmas.formatted-same, PrintedOptionLemmas.{printed-back, verified-options}}
+use Rattle.verity_format.{specs.Superblocks.{SuperblockFields, superblock_bytes}, proofs.SuperblockLemmas.one-superblock}
 use Rattle.veritysetup.proofs.laws.printed_options_give_the_settings.Goals as goal
 
 -- a device is formatted whatever root hash the settings have

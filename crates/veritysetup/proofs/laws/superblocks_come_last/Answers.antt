@@ -1,5 +1,5 @@
-use Rattle.{std.proofs.Common.{subst, sym}, veritysetup.{specs.Runs.Formatted.IsFormattedDevice, proofs.FormattedLemmas.written-formatted}}
-use Rattle.veritysetup.proofs.{ResumedLemmas.{begun-unread, unread-refused}, SettingsLemmas.AreValid}
+use Rattle.{std.proofs.Common.{subst, sym}, veritysetup.proofs.ResumedLemmas.{begun-unread, unread-refused}}
+use Rattle.veritysetup.{specs.Runs.Formatted.IsFormattedDevice, proofs.{FormattedLemmas.written-formatted, SettingsLemmas.AreValid}}
 use Rattle.veritysetup.proofs.laws.superblocks_come_last.Goals as goal
 
 pub returns-clause-unread : goal.returns-clause-unread

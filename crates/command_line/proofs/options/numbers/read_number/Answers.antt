@@ -1,6 +1,5 @@
-use Rattle.std.proofs.Common.{arith, refl, ◌≡◌, ◌∙◌, ◌<◌, ◌&&◌, ℕ, Bool, true, false, cond, Some, None, Result, Ok, Err, nat_lt, lt-ltb}
-use Rattle.std.{proofs.{Common.ltb-true, lemmas.Str.Parse.parse_plain}, specs.Result.{OkIff, result_ok}}
-use Rattle.command_line.proofs.Numerals.{numerals}
+use Rattle.std.proofs.Common.{arith, refl, ◌≡◌, ◌∙◌, ◌<◌, ◌&&◌, ℕ, Bool, true, false, cond, Some, None, Result, Ok, Err, nat_lt, lt-ltb, ltb-true}
+use Rattle.{std.{proofs.lemmas.Str.Parse.parse_plain, specs.Result.{OkIff, result_ok}}, command_line.proofs.Numerals.numerals}
 use Rattle.command_line.proofs.options.numbers.read_number.Goals as goal
 
 -- a value if three tests hold, and otherwise none

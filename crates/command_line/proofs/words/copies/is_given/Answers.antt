@@ -1,5 +1,4 @@
-use Rattle.{std.proofs.Common.{◌∙◌, ap}, clap.{specs.Words.found_of, proofs.WalkLemmas.first_value-rows}}
-use Rattle.command_line.specs.Arguments.{flag_of}
+use Rattle.{std.proofs.Common.{◌∙◌, ap}, clap.{specs.Words.found_of, proofs.WalkLemmas.first_value-rows}, command_line.specs.Arguments.flag_of}
 use Rattle.command_line.proofs.words.copies.is_given.Goals as goal
 
 pub returns-in-Some : goal.returns-in-Some

@@ -1,5 +1,4 @@
-use Rattle.std.proofs.Common.{◌≡◌, ◌∙◌, ap, sym, map, ◌∷◌, [], ◌++◌, string_bytes}
-use Rattle.command_line.proofs.WordLists.{map-push-take, take-whole}
+use Rattle.{std.proofs.Common.{◌≡◌, ◌∙◌, ap, sym, map, ◌∷◌, [], ◌++◌, string_bytes}, command_line.proofs.WordLists.{map-push-take, take-whole}}
 use Rattle.command_line.proofs.words.word_list.all_words.Goals as goal
 
 pub loop-number-init : goal.loop-number-init

@@ -1,5 +1,4 @@
-use Rattle.std.proofs.lemmas.List.{take_all}
-use Rattle.command_line.proofs.Prefixes.{prefix_of, prefix_whole, pieces_prefix, pieces_whole, appends_nothing}
+use Rattle.{std.proofs.lemmas.List.take_all, command_line.proofs.Prefixes.{prefix_of, prefix_whole, pieces_prefix, pieces_whole, appends_nothing}}
 use Rattle.command_line.proofs.writing.messages.write_pieces.Goals as goal
 
 pub loop-piece-init : goal.loop-piece-init

@@ -1,9 +1,7 @@
-use Rattle.std.proofs.Common.{refl, ap, subst, ◌≡◌, ◌∙◌, true, map, sym, List, Result, Ok, Err}
+use Rattle.{std.proofs.Common.{refl, ap, subst, ◌≡◌, ◌∙◌, true, map, sym, List, Result, Ok, Err}, clap.proofs.OnLiterals.clap_on_literals}
 use Rattle.clap.specs.{Words.{App, Row, is_simple, is_simple_and_free, subcommand_of}, declared.error.Error.Error}
-use Rattle.clap.{specs.declared.parser.matches.ArgMatches.ArgMatches, proofs.OnLiterals.clap_on_literals}
-use Rattle.command_line.proofs.{Causes.{caused, fails_by}, Named.met_rows}
-use Rattle.command_line.specs.declared.words.line_fault.LineFault.TheVariants.{Memory, Refused}
-use Rattle.fsverity.specs.Words.CommandLines.{HoldsRows, fsverity_app, digest_app}
+use Rattle.command_line.{proofs.{Causes.{caused, fails_by}, Named.met_rows}, specs.declared.words.line_fault.LineFault.TheVariants.{Memory, Refused}}
+use Rattle.{fsverity.specs.Words.CommandLines.{HoldsRows, fsverity_app, digest_app}, clap.specs.declared.parser.matches.ArgMatches.ArgMatches}
 use Rattle.fsverity.proofs.words.reading.read_words.Goals as goal
 
 app_is_simple : is_simple fsverity_app ≡ true

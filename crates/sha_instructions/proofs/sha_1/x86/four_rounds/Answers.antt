@@ -1,6 +1,5 @@
 use Rattle.sha_instructions.proofs.Rounds1.{e_after, four_choose, four_last, four_majority, four_parity, x86_four}
-use Rattle.sha_instructions.proofs.sha_1.x86.four_rounds.Goals.{then-t-lt20, else-t-lt20, then-t-lt40, else-t-lt40, then-t-lt60}
-use Rattle.sha_instructions.proofs.sha_1.x86.four_rounds.Goals.{else-t-lt60}
+use Rattle.sha_instructions.proofs.sha_1.x86.four_rounds.Goals.{then-t-lt20, else-t-lt20, then-t-lt40, else-t-lt40, then-t-lt60, else-t-lt60}
 use Rattle.std.{proofs.Common.{ap, ◌∙◌, arith, slice_index}, specs.Int.{rotate_left, w32}}
 use Rattle.sha1.specs.Sha1 as S1
 use Rattle.sha_instructions.proofs.sha_1.x86.four_rounds.Goals as goal

@@ -1,5 +1,4 @@
-use Rattle.{std.proofs.Common.{refl, ap, ◌∙◌}, sha_instructions.proofs.Rounds1.vectors_next}
-use Rattle.sha_instructions.specs.{Sha1Vectors.rotated, Vectors.{backwards, xor}}
+use Rattle.{std.proofs.Common.{refl, ap, ◌∙◌}, sha_instructions.{proofs.Rounds1.vectors_next, specs.{Sha1Vectors.rotated, Vectors.{backwards, xor}}}}
 use Rattle.sha_instructions.proofs.sha_1.x86.next_four.Goals as goal
 
 pub returns : goal.returns

@@ -1,5 +1,4 @@
-use Rattle.std.proofs.Common.{ap, ◌∙◌}
-use Rattle.sha_instructions.{specs.{Sha256Vectors.add_sigma1, Vectors.{add, moved}}, proofs.Rounds256.vectors_next}
+use Rattle.{std.proofs.Common.{ap, ◌∙◌}, sha_instructions.{specs.{Sha256Vectors.add_sigma1, Vectors.{add, moved}}, proofs.Rounds256.vectors_next}}
 use Rattle.sha_instructions.proofs.sha_256.arm.next_four.Goals as goal
 
 pub returns : goal.returns

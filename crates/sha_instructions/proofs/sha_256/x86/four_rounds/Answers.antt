@@ -1,5 +1,5 @@
-use Rattle.sha_instructions.proofs.Rounds256.{after_two, vectors_two, low_sums, high_sums, rounds_at}
-use Rattle.{std.proofs.Common.{◌+◌, ap, ◌∙◌}, sha_instructions.specs.{Sha256Vectors.{abef, cdgh}, Vectors.four}}
+use Rattle.sha_instructions.{proofs.Rounds256.{after_two, vectors_two, low_sums, high_sums, rounds_at}, specs.Sha256Vectors.{abef, cdgh}}
+use Rattle.{sha_instructions.specs.Vectors.four, std.proofs.Common.{◌+◌, ap, ◌∙◌}}
 use Rattle.sha2.specs.Sha256 as S256
 use Rattle.sha_instructions.proofs.sha_256.x86.four_rounds.Goals as goal
 

@@ -1,5 +1,5 @@
 use Rattle.std.proofs.Common.{ap, ◌∙◌}
-use Rattle.sha_instructions.{specs.{Sha256Vectors.{add_sigma0, add_sigma1}, Vectors.{add}}, proofs.Rounds256.vectors_next}
+use Rattle.sha_instructions.{specs.{Sha256Vectors.{add_sigma0, add_sigma1}, Vectors.add}, proofs.Rounds256.vectors_next}
 use Rattle.sha_instructions.proofs.sha_256.x86.next_four.Goals as goal
 
 pub returns : goal.returns

@@ -1,5 +1,4 @@
-use Rattle.std.proofs.Common.{◌≡◌, ◌*◌, ◌/◌, ◌++◌, ap, ◌∙◌, arith}
-use Rattle.sha_lanes.proofs.{HashSha1.{hash_start, sha1_is}, OneMessage.hash_end_sha1}
+use Rattle.{std.proofs.Common.{◌≡◌, ◌*◌, ◌/◌, ◌++◌, ap, ◌∙◌, arith}, sha_lanes.proofs.{HashSha1.{hash_start, sha1_is}, OneMessage.hash_end_sha1}}
 use Rattle.sha_lanes.proofs.sha_1.one_message.sha1_alone.Goals.{then-blocks-gt0, else-blocks-gt0}
 use Rattle.sha1.specs.Sha1 as S1
 use Rattle.sha_lanes.proofs.sha_1.one_message.sha1_alone.Goals as goal

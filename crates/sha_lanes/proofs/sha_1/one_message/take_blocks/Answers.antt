@@ -1,6 +1,6 @@
 use Rattle.std.proofs.Common.{◌≡◌, ◌+◌, ◌*◌, ◌<◌, ◌++◌, length, take, drop, refl, ap, sym, subst, ◌∙◌, arith, rules}
-use Rattle.sha_lanes.{specs.{Sha1.AddsConstants, Words32.block_count}, proofs.{Groups.group_padded, HashSha1.hash_more}}
-use Rattle.sha_lanes.proofs.{OneMessage.schedule_at_sha1, sha_1.one_message.take_blocks.Goals.{in-Some, in-None}}
+use Rattle.sha_lanes.{specs.{Sha1.AddsConstants, Words32.block_count}, proofs.{Groups.group_padded, HashSha1.hash_more, OneMessage.schedule_at_sha1}}
+use Rattle.sha_lanes.proofs.sha_1.one_message.take_blocks.Goals.{in-Some, in-None}
 use Rattle.sha1.specs.Sha1 as S1
 use Rattle.sha_lanes.proofs.sha_1.one_message.take_blocks.Goals as goal
 

@@ -1,6 +1,5 @@
-use Rattle.std.proofs.{Common.{[], get_or, slice_index, ap, sym, ◌∙◌, arith, below_more}, Math.ListN.length-set}
-use Rattle.std.proofs.lemmas.List.{get_or-set_same, get_or-set_other}
-use Rattle.sha_lanes.proofs.{LaneWise.{splat_lanes, word_of_lane}, HashSha1.kind_constant}
+use Rattle.std.proofs.{lemmas.List.{get_or-set_same, get_or-set_other}, Common.{[], get_or, slice_index, ap, sym, ◌∙◌, arith, below_more}}
+use Rattle.{sha_lanes.proofs.{LaneWise.{splat_lanes, word_of_lane}, HashSha1.kind_constant}, std.proofs.Math.ListN.length-set}
 use Rattle.sha1.specs.Sha1 as S1
 use Rattle.sha_lanes.proofs.sha_1.plain_rounds.add_constants.Goals as goal
 

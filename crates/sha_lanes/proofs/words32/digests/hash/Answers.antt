@@ -1,5 +1,5 @@
-use Rattle.{std.proofs.Common.{◌+◌, length, refl, ap, ◌∙◌, arith}, sha_lanes.proofs.Padding32.blocks_of}
-use Rattle.sha_lanes.{specs.Lanes.{lane, message_of}, proofs.{Pieces.length-message_of, Hash32.{hash_start, hash_more}}}
+use Rattle.std.proofs.Common.{◌+◌, length, refl, ap, ◌∙◌, arith}
+use Rattle.sha_lanes.{proofs.{Padding32.blocks_of, Pieces.length-message_of, Hash32.{hash_start, hash_more}}, specs.Lanes.{lane, message_of}}
 use Rattle.sha2.specs.Sha256 as S256
 use Rattle.sha_lanes.proofs.words32.digests.hash.Goals as goal
 

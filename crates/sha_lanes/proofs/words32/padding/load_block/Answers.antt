@@ -1,6 +1,5 @@
 use Rattle.std.proofs.{Common.{◌≡◌, ◌+◌, ◌*◌, ◌≤◌, ◌++◌, length, take, drop, ap, ◌∙◌, arith, rules, inl, inr}, lemmas.List.length-take-le}
-use Rattle.sha_lanes.{specs.Words32.{block_count, padded_row}, proofs.Pieces.length-pieces}
-use Rattle.sha_lanes.proofs.Padding32.{row_filled, padded_part, padded_outside}
+use Rattle.sha_lanes.{specs.Words32.{block_count, padded_row}, proofs.{Pieces.length-pieces, Padding32.{row_filled, padded_part, padded_outside}}}
 use Rattle.sha2.specs.Sha256 as S256
 use Rattle.sha_lanes.proofs.words32.padding.load_block.Goals as goal
 

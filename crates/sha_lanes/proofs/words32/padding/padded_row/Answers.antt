@@ -1,6 +1,5 @@
-use Rattle.std.proofs.Common.{◌≡◌, [], ◌∷◌, ◌+◌, ◌*◌, ◌%◌, ◌^◌, ◌++◌, length, slice_index, refl, ap, sym, ◌∙◌, arith}
-use Rattle.std.{proofs.lemmas.List.length-append, specs.Int.{w64, to_be_bytes}}
-use Rattle.sha_lanes.{specs.Words32.block_count, proofs.Pieces.{empty_row, zeros_more, length-pieces}}
+use Rattle.std.proofs.{Common.{◌≡◌, [], ◌∷◌, ◌+◌, ◌*◌, ◌%◌, ◌^◌, ◌++◌, length, slice_index, refl, ap, sym, ◌∙◌, arith}, lemmas.List.length-append}
+use Rattle.{std.specs.Int.{w64, to_be_bytes}, sha_lanes.{specs.Words32.block_count, proofs.Pieces.{empty_row, zeros_more, length-pieces}}}
 use Rattle.sha_lanes.proofs.Padding32.{zero_count, before_length, length-before_length, padded_is}
 use Rattle.sha_lanes.proofs.words32.padding.padded_row.Goals as goal
 

@@ -1,5 +1,4 @@
-use Rattle.std.proofs.Common.{◌≡◌, ℕ, ◌<◌, ◌+◌, ◌-◌, ◌*◌, List, [], length, take, get_or}
-use Rattle.sha_lanes.specs.{Lanes.lane, Words32.BeginsSchedule}
+use Rattle.{std.proofs.Common.{◌≡◌, ℕ, ◌<◌, ◌+◌, ◌-◌, ◌*◌, List, [], length, take, get_or}, sha_lanes.specs.{Lanes.lane, Words32.BeginsSchedule}}
 use Rattle.sha2.specs.Sha256 as S256
 use Rattle.sha_lanes.proofs.words32.schedule.schedule.Given as goal
 

@@ -1,5 +1,4 @@
-use Rattle.std.proofs.Common.{ℕ, ◌+◌, ◌*◌, ◌<◌, ◌≤◌, List, length, ap, ◌∙◌, arith}
-use Rattle.sha_lanes.{specs.Lanes.message_of, proofs.LaneWise.four_cases}
+use Rattle.{std.proofs.Common.{ℕ, ◌+◌, ◌*◌, ◌<◌, ◌≤◌, List, length, ap, ◌∙◌, arith}, sha_lanes.{specs.Lanes.message_of, proofs.LaneWise.four_cases}}
 use Rattle.sha2.specs.Sha512 as S512
 use Rattle.sha_lanes.proofs.words64.digests.four_hash_values.Goals as goal
 

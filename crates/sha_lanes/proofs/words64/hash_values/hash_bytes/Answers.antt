@@ -1,6 +1,5 @@
 use Rattle.std.proofs.{Common.{◌≡◌, ◌+◌, ◌-◌, ◌*◌, length, slice_index, refl, ap, sym, ◌∙◌, arith, rules}, lemmas.List.take_all}
-use Rattle.std.{proofs.lemmas.Slice.{take-put_mid, overwrites}, specs.Int.{w64, to_be_bytes}}
-use Rattle.sha_lanes.proofs.Hash64.{digest_start, digest_more}
+use Rattle.{std.{proofs.lemmas.Slice.{take-put_mid, overwrites}, specs.Int.{w64, to_be_bytes}}, sha_lanes.proofs.Hash64.{digest_start, digest_more}}
 use Rattle.sha2.specs.Sha512 as S512
 use Rattle.sha_lanes.proofs.words64.hash_values.hash_bytes.Goals as goal
 

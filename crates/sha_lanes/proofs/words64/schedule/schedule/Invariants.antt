@@ -1,5 +1,4 @@
-use Rattle.std.proofs.Common.{◌≡◌, ℕ, ◌<◌, ◌+◌, ◌-◌, ◌*◌, List, [], length, take, get_or}
-use Rattle.sha_lanes.specs.{Lanes.lane, Words64.BeginsSchedule}
+use Rattle.{std.proofs.Common.{◌≡◌, ℕ, ◌<◌, ◌+◌, ◌-◌, ◌*◌, List, [], length, take, get_or}, sha_lanes.specs.{Lanes.lane, Words64.BeginsSchedule}}
 use Rattle.sha2.specs.Sha512 as S512
 use Rattle.sha_lanes.proofs.words64.schedule.schedule.Given as goal
 

@@ -1,7 +1,6 @@
 use Rattle.std.proofs.{Common.{◌≡◌, ◌∙◌, ℕ, ◌+◌, ◌*◌, ◌%◌, ◌<◌, ◌≤◌, ap, arith, length, take}, lemmas.List.length-take-le}
-use Rattle.verity_plan.specs.Settings.{fan}
+use Rattle.{verity_plan.specs.Settings.fan, verity_blocks.proofs.Windows.BytesToWindow.{HasFed-filled, closed_after-placed, windows_before-filled}}
 use Rattle.verity_blocks.{specs.{ClosingOrder.closed_after, Windows.{window_blocks, window_length}}, proofs.Windows.LastByte.last-below}
-use Rattle.verity_blocks.proofs.Windows.BytesToWindow.{HasFed-filled, closed_after-placed, windows_before-filled}
 use Rattle.verity_builders.proofs.feeding.pieces.take_bytes.Goals as goal
 
 pub returns-clause-none_closes : goal.returns-clause-none_closes

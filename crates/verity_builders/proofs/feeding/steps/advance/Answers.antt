@@ -1,7 +1,7 @@
 -- A hash block closes, or bytes are taken.
-use Rattle.std.proofs.{Common.{◌≡◌, ◌+◌, ◌*◌, ◌/◌, length, take, arith, refl, sym}, lemmas.List.length-take-le}
-use Rattle.{verity_plan.specs.Settings.fan, verity_blocks.proofs.ClosingSteps.Advancing.{FeedsOn-climbs, FeedsOn-takes}}
-use Rattle.verity_blocks.specs.{ClosingOrder.{closed_after, blocks_before}, Windows.{window_blocks, window_length}}
+use Rattle.{std.proofs.{Common.{◌≡◌, ◌+◌, ◌*◌, ◌/◌, length, take, arith, refl, sym}, lemmas.List.length-take-le}, verity_plan.specs.Settings.fan}
+use Rattle.verity_blocks.{proofs.ClosingSteps.Advancing.{FeedsOn-climbs, FeedsOn-takes}, specs.ClosingOrder.{closed_after, blocks_before}}
+use Rattle.verity_blocks.specs.Windows.{window_blocks, window_length}
 use Rattle.verity_builders.proofs.feeding.steps.advance.Goals as goal
 
 pub returns-then-close_next-clause-stands : goal.returns-then-close_next-clause-stands

@@ -1,5 +1,5 @@
-use Rattle.std.proofs.{Common.{◌∙◌, ℕ, ap, arith, refl, replicate}, lemmas.List.length-take-le}
-use Rattle.{verity_plan.specs.PlanCounts.most_level_count, verity_builders.proofs.Trees.TreeMemory.HasFed-none}
+use Rattle.{std.proofs.{Common.{◌∙◌, ℕ, ap, arith, refl, replicate}, lemmas.List.length-take-le}, verity_plan.specs.PlanCounts.most_level_count}
+use Rattle.verity_builders.proofs.Trees.TreeMemory.{HasFed-none}
 use Rattle.verity_builders.proofs.file_builder.FileBuilder.begin.Goals as goal
 
 pub returns-clause-fed : goal.returns-clause-fed

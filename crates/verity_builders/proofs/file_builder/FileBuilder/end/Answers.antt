@@ -1,6 +1,6 @@
 use Rattle.std.proofs.{Common.{List, ap, arith, false, length, refl, subst, sym, ℕ, ◌*◌, ◌∙◌, ◌≡◌, ◌<◌}, lemmas.Bool.Decides.nat_tests}
-use Rattle.{std.specs.Prelude.{Ok, nat_eq}, verity_plan.specs.Settings.TreeSettingsFields}
-use Rattle.verity_plan.{proofs.CountLemmas.mul_le, specs.{Plans.{IsPlan, PlanFields, plan_for_bytes}, PlanCounts.most_level_count}}
+use Rattle.{std.specs.Prelude.{Ok, nat_eq}, verity_plan.specs.PlanCounts.most_level_count}
+use Rattle.verity_plan.{specs.{Settings.TreeSettingsFields, Plans.{IsPlan, PlanFields, plan_for_bytes}}, proofs.CountLemmas.mul_le}
 use Rattle.verity_blocks.specs.{Levels.{root_of_file, data_blocks, root}, Steps.Feeding.HasFed}
 use Rattle.verity_builders.proofs.{Trees.TreeMemory.{IsFedFile-parted, joined}, FilePlans.{file_levels, file_room, plan_of_file-is}}
 use Rattle.verity_builders.proofs.file_builder.FileBuilder.end.Goals as goal

@@ -1,12 +1,11 @@
-use Rattle.std.proofs.Common.{List, [], ap, arith, drop, length, length-append, refl, rules, subst, sym, take, ℕ, ◌*◌, ◌++◌, ◌+◌, ◌-◌, ◌∷◌}
-use Rattle.{std.proofs.{Common.{◌<◌, ◌∙◌, ◌≡◌}, lemmas.List.{append-nil, take-append-drop}}, verity_io.specs.Writing.most_bytes}
-use Rattle.{std.specs.Prelude.{Err, None, Result, Some, if◌then◌else◌}, verity_builders.proofs.Files.SmallFiles.small-plan}
+use Rattle.std.proofs.Common.{List, [], ap, arith, drop, length, length-append, refl, rules, subst, sym, take, ℕ, ◌*◌, ◌++◌, ◌+◌, ◌-◌, ◌∷◌, ◌<◌, ◌∙◌}
+use Rattle.std.{proofs.{Common.◌≡◌, lemmas.List.{append-nil, take-append-drop}}, specs.Prelude.{Err, None, Result, Some, if◌then◌else◌}}
+use Rattle.{verity_io.specs.Writing.most_bytes, verity_builders.{proofs.Files.SmallFiles.small-plan, specs.Feeding.{IsFedFile, is_too_large}}}
+use Rattle.verity_builders.specs.declared.{feed_fault.FeedFault.TheVariants.TooLarge, file_builder.FileBuilder.FileBuilder}
+use Rattle.{verity_builders.proofs.Trees.TreeMemory.{IsFedFile-parted, joined}, verity_blocks.specs.Steps.Feeding.HasFed}
+use Rattle.verity_builders.proofs.FilePlans.{file_levels, file_room, plan_of_file-is, plan_of_file-large, plan_of_file-none}
 use Rattle.verity_plan.{proofs.CountLemmas.mul_le, specs.{Plans.{PlanFields, plan_for_bytes}, PlanCounts.most_level_count}}
 use Rattle.verity_plan.specs.{Settings.TreeSettingsFields, declared.plan_fault.PlanFault.{PlanFault, TheVariants.NoData}}
-use Rattle.verity_builders.specs.{Feeding.{IsFedFile, is_too_large}, declared.feed_fault.FeedFault.TheVariants.TooLarge}
-use Rattle.verity_builders.{specs.declared.file_builder.FileBuilder.FileBuilder, proofs.Trees.TreeMemory.{IsFedFile-parted, joined}}
-use Rattle.verity_builders.proofs.FilePlans.{file_levels, file_room, plan_of_file-is, plan_of_file-large, plan_of_file-none}
-use Rattle.verity_blocks.specs.Steps.Feeding.{HasFed}
 use Rattle.verity_builders.proofs.file_builder.FileBuilder.feed.Goals as goal
 
 pub returns-in_default-clause-fault : goal.returns-in_default-clause-fault

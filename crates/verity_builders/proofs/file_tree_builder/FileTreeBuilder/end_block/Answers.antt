@@ -1,10 +1,9 @@
 use Rattle.std.proofs.{Common.{List, ap, arith, subst, sym, false, refl, ℕ, ◌*◌, ◌∙◌, ◌≡◌}, lemmas.Bool.Decides.nat_tests}
-use Rattle.{std.specs.Prelude.{Err, nat_lt}, verity_builders.proofs.FilePlans.{file_levels, file_room, no-levels, plan_of_file-is}}
+use Rattle.{std.specs.Prelude.{Err, nat_lt}, verity_builders.proofs.file_tree_builder.FileTreeBuilder.end_block.Goals.After-split_at_mut-opened}
+use Rattle.verity_builders.{proofs.FilePlans.{file_levels, file_room, no-levels, plan_of_file-is}, specs.FileTrees.{IsFedFileTree, levels_of_file}}
+use Rattle.verity_builders.proofs.{Trees.TreeMemory.{IsFedFile-parted, joined}, Files.FileTreeMemory.{file-of_tree, tree-of_file}}
 use Rattle.verity_plan.{proofs.CountLemmas.mul_le, specs.{Plans.{PlanFields, plan_for_bytes, plan_of_file}, PlanCounts.most_level_count}}
 use Rattle.verity_plan.specs.{Settings.TreeSettingsFields, declared.plan_fault.PlanFault.{PlanFault, TheVariants.NoData}}
-use Rattle.verity_builders.{specs.FileTrees.{IsFedFileTree, levels_of_file}, proofs.Trees.TreeMemory.{IsFedFile-parted, joined}}
-use Rattle.verity_builders.proofs.Files.FileTreeMemory.{file-of_tree, tree-of_file}
-use Rattle.verity_builders.proofs.file_tree_builder.FileTreeBuilder.end_block.Goals.{After-split_at_mut-opened}
 use Rattle.verity_blocks.specs.{Levels.data_blocks, Steps.Feeding.HasFed, TreeOnDevice.tree_block}
 use Rattle.verity_builders.proofs.file_tree_builder.FileTreeBuilder.end_block.Goals as goal
 

@@ -1,13 +1,12 @@
 use Rattle.std.proofs.Common.{List, ap, arith, length, refl, rules, subst, sym, take, true, ℕ, ◌+◌, ◌<◌, ◌∙◌, ◌≡◌, Some, None}
-use Rattle.std.{proofs.lemmas.Bool.Decides.nat_tests, specs.Prelude.{Err, Result, if◌then◌else◌, nat_lt}}
-use Rattle.{verity_io.specs.Writing.most_bytes, verity_plan.specs.declared.plan_fault.PlanFault.{PlanFault, TheVariants.NoData}}
-use Rattle.verity_plan.{proofs.CountLemmas.mul_le, specs.{Plans.{PlanFields, plan_for_bytes, plan_of_file}, PlanCounts.most_level_count}}
-use Rattle.verity_builders.specs.{Feeding.is_too_large, FileTrees.{IsFedFileTree, levels_of_file}}
-use Rattle.verity_builders.{specs.declared.feed_fault.FeedFault.TheVariants.{Level, TooLarge}, proofs.Files.FileTreeBlocks.Stands-moves}
+use Rattle.{std.{proofs.lemmas.Bool.Decides.nat_tests, specs.Prelude.{Err, Result, if◌then◌else◌, nat_lt}}, verity_io.specs.Writing.most_bytes}
+use Rattle.verity_plan.{specs.{declared.plan_fault.PlanFault.{PlanFault, TheVariants.NoData}, PlanCounts.most_level_count}, proofs.CountLemmas.mul_le}
+use Rattle.{verity_plan.specs.Plans.{PlanFields, plan_for_bytes, plan_of_file}, verity_blocks.specs.Steps.Feeding.{FeedsOn, Stands}}
+use Rattle.verity_builders.{specs.{Feeding.is_too_large, FileTrees.{IsFedFileTree, levels_of_file}}, proofs.Files.FileTreeBlocks.Stands-moves}
+use Rattle.{verity_builders.specs.declared.feed_fault.FeedFault.TheVariants.{Level, TooLarge}, verity_blocks.proofs.ClosingSteps.Advancing.length-fed}
 use Rattle.verity_builders.proofs.FilePlans.{file_levels, file_room, no-levels, plan_of_file-is, plan_of_file-large}
 use Rattle.verity_builders.proofs.Files.FileTreeMemory.{FeedsFile-none, FeedsFile-some, HasFedOnFile, IsFedFileTree-parted}
 use Rattle.verity_builders.proofs.file_tree_builder.FileTreeBuilder.feed.Goals.{After-feed_before_end-taken}
-use Rattle.verity_blocks.{specs.Steps.Feeding.{FeedsOn, Stands}, proofs.ClosingSteps.Advancing.length-fed}
 use Rattle.verity_builders.proofs.file_tree_builder.FileTreeBuilder.feed.Goals as goal
 
 pub returns-in_default-clause-fault : goal.returns-in_default-clause-fault

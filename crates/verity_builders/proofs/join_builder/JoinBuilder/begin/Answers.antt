@@ -1,7 +1,6 @@
-use Rattle.std.proofs.{Common.{◌*◌, ◌-◌, ◌∙◌, ℕ, ap, arith, take}, lemmas.List.take-replicate}
-use Rattle.verity_plan.{specs.PlanCounts.level_count_of, proofs.FanLemmas.fan-some}
+use Rattle.{std.proofs.{Common.{◌*◌, ◌-◌, ◌∙◌, ℕ, ap, arith, take}, lemmas.List.take-replicate}, verity_plan.specs.PlanCounts.level_count_of}
 use Rattle.verity_builders.{specs.Parts.blocks_under, proofs.Joins.{JoinDigests.JoinStands-begun, PlanOfJoin.{length-under, parts-some}}}
-use Rattle.verity_blocks.proofs.OpenBlocks.DigestsInTurn.{HasOpenBlocks-zeros}
+use Rattle.{verity_blocks.proofs.OpenBlocks.DigestsInTurn.HasOpenBlocks-zeros, verity_plan.proofs.FanLemmas.fan-some}
 use Rattle.verity_builders.proofs.join_builder.JoinBuilder.begin.Goals as goal
 
 pub returns-clause-joined : goal.returns-clause-joined

@@ -1,8 +1,7 @@
-use Rattle.std.proofs.Common.{List, take, ap, arith, refl, sym, ℕ, ◌*◌, ◌+◌, ◌-◌, ◌∙◌, ◌≡◌, ◌≤◌}
-use Rattle.verity_plan.specs.{PlanCounts.level_count_of, Plans.PlanFields}
+use Rattle.{std.proofs.Common.{List, take, ap, arith, refl, sym, ℕ, ◌*◌, ◌+◌, ◌-◌, ◌∙◌, ◌≡◌, ◌≤◌}, verity_plan.specs.PlanCounts.level_count_of}
 use Rattle.verity_builders.specs.{Parts.{AreDigests, IsJoined, blocks_under}, Steps.Parts.{HasDigests, JoinStands}}
-use Rattle.verity_builders.proofs.Joins.JoinMemory.{HasDigests-parts, HasJoinedOn, IsJoined-parted, Joins-none, Joins-some}
-use Rattle.verity_builders.proofs.{Joins.PlanOfJoin.length-under, join_builder.JoinBuilder.feed.Goals.After-join_until_closed-taken}
+use Rattle.verity_builders.proofs.Joins.{JoinMemory.{HasDigests-parts, HasJoinedOn, IsJoined-parted, Joins-none, Joins-some}, PlanOfJoin.length-under}
+use Rattle.{verity_builders.proofs.join_builder.JoinBuilder.feed.Goals.After-join_until_closed-taken, verity_plan.specs.Plans.PlanFields}
 use Rattle.verity_builders.proofs.join_builder.JoinBuilder.feed.Goals as goal
 
 -- the digests stand in the memory's two parts after the step

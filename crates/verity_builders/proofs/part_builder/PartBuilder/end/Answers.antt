@@ -1,6 +1,6 @@
 use Rattle.{std.proofs.{Common.{List, ℕ, ◌∙◌, ◌≡◌, get_or, []}, lemmas.Result.IfOk-weaker}, verity_plan.specs.Settings.hash}
-use Rattle.{verity_blocks.specs.Levels.{blocks_up, data_blocks}, verity_builders.proofs.Parts.PlanOfPart.has-part}
-use Rattle.verity_builders.{specs.Parts.{IsDigestOfPart, plan_of_part}, proofs.Parts.PartMemory.{IsFedTo-part, digest-part, own-digest}}
+use Rattle.{verity_blocks.specs.Levels.{blocks_up, data_blocks}, verity_builders.proofs.Parts.PartMemory.{IsFedTo-part, digest-part, own-digest}}
+use Rattle.verity_builders.{proofs.Parts.PlanOfPart.has-part, specs.Parts.{IsDigestOfPart, plan_of_part}}
 use Rattle.verity_builders.proofs.part_builder.PartBuilder.end.Goals as goal
 
 pub digest_of_fed-requires-clause-levels : goal.digest_of_fed-requires-clause-levels

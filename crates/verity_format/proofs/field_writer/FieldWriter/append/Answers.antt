@@ -1,6 +1,5 @@
 -- The bytes stand after the fields, and zeros after them.
-use Rattle.std.proofs.Common.{◌≡◌, ◌++◌, length, ap, ◌∙◌, arith}
-use Rattle.verity_format.proofs.FieldLemmas.{IsPadded-put_mid, room_after, take-put_mid}
+use Rattle.{std.proofs.Common.{◌≡◌, ◌++◌, length, ap, ◌∙◌, arith}, verity_format.proofs.FieldLemmas.{IsPadded-put_mid, room_after, take-put_mid}}
 use Rattle.verity_format.proofs.field_writer.FieldWriter.append.Goals as goal
 
 pub invariant_of-self : goal.invariant_of-self

@@ -1,8 +1,7 @@
 -- The one data block of a tree without levels.
 use Rattle.{std.proofs.Common.{◌≡◌, ℕ, ◌+◌, ◌*◌, ◌∙◌, arith, ap, length, refl, subst, take}, verity_hash.specs.Hashing.with_zeros}
-use Rattle.{verity_io.specs.Reading.HasRead, verity_plan.specs.PlanCounts.level_count_of}
-use Rattle.verity_pass.proofs.Passes.OnePass.{block-filled, not-of_device, one-block, one-root, stopped-below}
-use Rattle.verity_blocks.proofs.OpenBlocks.OpenBlock.{hash-by, length-hash}
+use Rattle.{verity_pass.proofs.Passes.OnePass.{block-filled, not-of_device, one-block, one-root, stopped-below}, verity_io.specs.Reading.HasRead}
+use Rattle.{verity_blocks.proofs.OpenBlocks.OpenBlock.{hash-by, length-hash}, verity_plan.specs.PlanCounts.level_count_of}
 use Rattle.verity_pass.proofs.pass.one_pass.pass.Goals as goal
 
 pub returns-in-Ok-clause-run : goal.returns-in-Ok-clause-run

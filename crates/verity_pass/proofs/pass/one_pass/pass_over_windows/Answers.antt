@@ -1,13 +1,12 @@
-use Rattle.std.proofs.Common.{List, arith, ap, drop, length, length-drop, refl, subst, suc, sym, take, false, min, ℕ, ◌+◌, ◌-◌, ◌/◌, ◌^◌}
-use Rattle.std.proofs.{Common.{◌<◌, ◌∙◌, ◌≡◌, ◌≤◌}, lemmas.List.{length-take, length-take-le}, Math.Nat.{zero-div, zero-mul}}
+use Rattle.std.proofs.Common.{List, arith, ap, drop, length, length-drop, refl, subst, suc, sym, take, false, min, ℕ, ◌+◌, ◌-◌, ◌/◌, ◌^◌, ◌<◌, ◌∙◌}
+use Rattle.{std.proofs.{Common.{◌≡◌, ◌≤◌}, lemmas.List.{length-take, length-take-le}, Math.Nat.{zero-div, zero-mul}}, verity_io.specs.Reading.HasRead}
 use Rattle.verity_plan.{specs.{PlanCounts.level_count_of, Settings.fan}, proofs.{CountLemmas.mul_le, FanLemmas.fan-some}}
-use Rattle.{verity_blocks.specs.{ClosingOrder.{blocks_before, handed_out}, Levels.{data_blocks, root}}, verity_io.specs.Reading.HasRead}
-use Rattle.verity_blocks.{specs.{Steps.Feeding.{IsHandingOut, TakesMore}, Windows.window_length}, proofs.Levels.CutBlocks.length-cut}
-use Rattle.verity_blocks.proofs.Windows.{LastByte.last-below, RowsOfWindow.window-wide, BytesToWindow.HasFed-zeros}
-use Rattle.verity_blocks.proofs.{ClosingSteps.Asking.left-root, OpenBlocks.{ClosingBlocks.closing-below, Reached.whole-next}}
-use Rattle.{verity_blocks.proofs.Order.HandedOut.{all-handed-out, none-handed-out}, verity_pass.specs.Steps.OnClosed.{effects, stop_at}}
-use Rattle.verity_pass.proofs.Passes.OnePass.{HandsOn, chunk-at, data_blocks-front, feeds-window, hands-on, not-of_device, not-of_source}
-use Rattle.verity_pass.proofs.Passes.OnePass.{reads-up-to, stopped-below, stops-for, stops-in-window, whole-windows}
+use Rattle.verity_blocks.specs.{ClosingOrder.{blocks_before, handed_out}, Levels.{data_blocks, root}, Steps.Feeding.{IsHandingOut, TakesMore}}
+use Rattle.verity_blocks.{specs.Windows.window_length, proofs.{Levels.CutBlocks.length-cut, Windows.{LastByte.last-below, RowsOfWindow.window-wide}}}
+use Rattle.verity_blocks.proofs.{Windows.BytesToWindow.HasFed-zeros, ClosingSteps.Asking.left-root, OpenBlocks.ClosingBlocks.closing-below}
+use Rattle.verity_blocks.proofs.{OpenBlocks.Reached.whole-next, Order.HandedOut.{all-handed-out, none-handed-out}}
+use Rattle.verity_pass.{specs.Steps.OnClosed.{effects, stop_at}, proofs.Passes.OnePass.{stopped-below, stops-for, stops-in-window, whole-windows}}
+use Rattle.verity_pass.proofs.Passes.OnePass.{HandsOn, chunk-at, data_blocks-front, feeds-window, hands-on, not-of_device, not-of_source, reads-up-to}
 use Rattle.verity_pass.proofs.pass.one_pass.pass_over_windows.{Given.Over, Goals.{After-close_next, After-handed_out-next}}
 use Rattle.verity_pass.proofs.pass.one_pass.pass_over_windows.Goals as goal
 

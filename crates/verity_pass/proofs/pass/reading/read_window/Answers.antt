@@ -1,8 +1,7 @@
-use Rattle.std.proofs.Common.{◌≡◌, ℕ, ◌+◌, ◌-◌, ◌/◌, ◌<◌, ◌≤◌, [], List, length, take, drop, ◌++◌, arith, ap, sym, ◌∙◌, length-append}
-use Rattle.std.proofs.{Common.length-drop, lemmas.{List.{drop-drop, length-take-le, take_all, take_at}, Slice.take-put_mid}}
-use Rattle.{std.proofs.Math.Seq.take-add, verity_io.specs.Reading.HasRead, verity_plan.proofs.FanLemmas.some_data}
+use Rattle.std.proofs.Common.{◌≡◌, ℕ, ◌+◌, ◌-◌, ◌/◌, ◌<◌, ◌≤◌, [], List, length, take, drop, ◌++◌, arith, ap, sym, ◌∙◌, length-append, length-drop}
+use Rattle.std.proofs.{lemmas.{List.{drop-drop, length-take-le, take_all, take_at}, Slice.take-put_mid}, Math.Seq.take-add}
+use Rattle.{verity_io.specs.Reading.HasRead, verity_plan.proofs.FanLemmas.some_data, verity_blocks.proofs.OpenBlocks.Reached.whole-next}
 use Rattle.verity_pass.proofs.Passes.ReadBlocks.{HasRead-blocks, HasRead-more, failed-within, short-within}
-use Rattle.verity_blocks.proofs.OpenBlocks.Reached.{whole-next}
 use borrow.Rule.Slice.PartMut.{put_mid}
 use Rattle.verity_pass.proofs.pass.reading.read_window.Goals as goal
 

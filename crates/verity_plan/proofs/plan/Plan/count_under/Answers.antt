@@ -1,5 +1,4 @@
-use Rattle.std.{proofs.Common.{◌≡◌, ℕ, ◌<◌, arith, ◌∙◌, ap}, specs.Int.div_ceil}
-use Rattle.verity_plan.{specs.Settings.fan, proofs.PlanLemmas.count-more}
+use Rattle.{std.{proofs.Common.{◌≡◌, ℕ, ◌<◌, arith, ◌∙◌, ap}, specs.Int.div_ceil}, verity_plan.{specs.Settings.fan, proofs.PlanLemmas.count-more}}
 use Rattle.verity_plan.proofs.plan.Plan.count_under.Goals as goal
 
 pub loop-below-preserved : goal.loop-below-preserved

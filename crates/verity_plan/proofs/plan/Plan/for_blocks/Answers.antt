@@ -1,6 +1,5 @@
 -- The bytes of n whole blocks make n blocks.
-use Rattle.std.{proofs.Common.{◌≡◌, ℕ, ◌*◌, sym, ◌∙◌, ap}, specs.Int.div_ceil}
-use Rattle.verity_plan.proofs.{CountLemmas.div_ceil-mul, FanLemmas.some_data}
+use Rattle.{std.{proofs.Common.{◌≡◌, ℕ, ◌*◌, sym, ◌∙◌, ap}, specs.Int.div_ceil}, verity_plan.proofs.{CountLemmas.div_ceil-mul, FanLemmas.some_data}}
 use Rattle.verity_plan.proofs.plan.Plan.for_blocks.Goals as goal
 
 pub try_new-requires : goal.try_new-requires

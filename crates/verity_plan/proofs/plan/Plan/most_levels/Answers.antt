@@ -1,6 +1,6 @@
-use Rattle.std.proofs.{Common.{◌≡◌, ℕ, ◌*◌, ◌/◌, ◌^◌, ◌<◌, ◌≤◌, arith, sym, ◌∙◌, ap}, Math.Nat.div-le_self}
-use Rattle.{verity_io.specs.Writing.most_bytes, verity_plan.specs.{Plans.level_count, Settings.{IsValid, TreeSettingsFields}}}
-use Rattle.verity_plan.proofs.{FanLemmas.{block_power, fan-power, some_data}, FitLemmas.power_of_two-exponent, PlanLemmas.level_count-few}
+use Rattle.{std.proofs.{Common.{◌≡◌, ℕ, ◌*◌, ◌/◌, ◌^◌, ◌<◌, ◌≤◌, arith, sym, ◌∙◌, ap}, Math.Nat.div-le_self}, verity_io.specs.Writing.most_bytes}
+use Rattle.verity_plan.{specs.{Plans.level_count, Settings.{IsValid, TreeSettingsFields}}, proofs.FanLemmas.{block_power, fan-power, some_data}}
+use Rattle.verity_plan.proofs.{FitLemmas.power_of_two-exponent, PlanLemmas.level_count-few}
 use Rattle.verity_plan.proofs.plan.Plan.most_levels.Goals as goal
 
 -- how many data blocks there can be: a data block's size is a power of two, by whose exponent bytes are shifted

@@ -1,5 +1,4 @@
-use Rattle.std.proofs.Common.{ℕ, ◌*◌, arith, ap, ◌∙◌, subst}
-use Rattle.verity_plan.{specs.{Plans.IsPlan, PlanCounts.place_of}, proofs.PlanLemmas.start-room}
+use Rattle.{std.proofs.Common.{ℕ, ◌*◌, arith, ap, ◌∙◌, subst}, verity_plan.{specs.{Plans.IsPlan, PlanCounts.place_of}, proofs.PlanLemmas.start-room}}
 use Rattle.verity_plan.proofs.plan.Plan.start.Goals as goal
 
 pub overflow_mul-result : goal.overflow_mul-result

@@ -1,7 +1,7 @@
-use Rattle.std.proofs.{Common.{◌≡◌, ℕ, ◌+◌, ◌*◌, ◌<◌, arith, sym, ◌∙◌, ap, inl, inr}, Math.Nat.mul-le-mul_right}
-use Rattle.{verity_io.specs.Writing.most_bytes, verity_plan.specs.Plans.{level_count, blocks_from, PlanFields, end_place_of}}
-use Rattle.verity_plan.proofs.{FanLemmas.{some_data, two_slots, digest_len_of-pos, fan-power}, PlanLemmas.some_wanted}
-use Rattle.verity_plan.proofs.PlanLemmas.{checked_plan-large, past-quotient, within-quotient, base-le-end, has_room-data, has_room-hash}
+use Rattle.{std.proofs.{Common.{◌≡◌, ℕ, ◌+◌, ◌*◌, ◌<◌, arith, sym, ◌∙◌, ap, inl, inr}, Math.Nat.mul-le-mul_right}, verity_io.specs.Writing.most_bytes}
+use Rattle.verity_plan.specs.Plans.{level_count, blocks_from, PlanFields, end_place_of}
+use Rattle.verity_plan.proofs.FanLemmas.{some_data, two_slots, digest_len_of-pos, fan-power}
+use Rattle.verity_plan.proofs.PlanLemmas.{some_wanted, checked_plan-large, past-quotient, within-quotient, base-le-end, has_room-data, has_room-hash}
 use Rattle.verity_plan.proofs.plan.Plan.try_new.Goals as goal
 
 pub returns-then-blocks-most_blocks : goal.returns-then-blocks-most_blocks

@@ -1,7 +1,6 @@
-use Rattle.std.proofs.{Common.{◌≡◌, ℕ, ◌≤◌, ◌-◌, arith, sym, ◌∙◌, ap, subst}, lemmas.Nat.one_shl}
-use Rattle.verity_plan.specs.Settings.{IsValid, TreeSettingsFields, digest_len, least_power, most_block}
-use Rattle.verity_plan.proofs.FitLemmas.{ByExponents, fan-exponents, fan-fits, fan-most, least_power-above}
-use Rattle.verity_plan.proofs.{FanLemmas.{digest_len_of-pos, fan-two}, settings.TreeSettings.fan.Goals.After-ilog2-least}
+use Rattle.{verity_plan.specs.Settings.{IsValid, TreeSettingsFields, digest_len, least_power, most_block}, std.proofs.lemmas.Nat.one_shl}
+use Rattle.verity_plan.proofs.{FitLemmas.{ByExponents, fan-exponents, fan-fits, fan-most, least_power-above}, FanLemmas.{digest_len_of-pos, fan-two}}
+use Rattle.{verity_plan.proofs.settings.TreeSettings.fan.Goals.After-ilog2-least, std.proofs.Common.{◌≡◌, ℕ, ◌≤◌, ◌-◌, arith, sym, ◌∙◌, ap, subst}}
 use Rattle.verity_plan.proofs.settings.TreeSettings.fan.Goals as goal
 
 pub ilog2-least-requires : goal.ilog2-least-requires
