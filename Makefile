@@ -9,6 +9,10 @@ CPU = $(shell ./processor.sh)
 # system but the kernel.
 TARGET = x86_64
 STATIC = no
+# SHA=no leaves out the SHA instructions of newer processors, which are otherwise used where a processor has them; `make bench`
+# also keeps Debian's programs from them.
+SHA ?=
+export SHA
 GIVEN_CPU = $(if $(filter command,$(origin CPU)),$(CPU))
 PROGRAM_CPU = $(if $(filter x86_64,$(TARGET)),$(CPU),$(GIVEN_CPU))
 LIBRARY_CPU = $(filter-out any,$(GIVEN_CPU))
@@ -61,9 +65,10 @@ programs:
 library:
 	./library.sh $(TARGET) $(LIBRARY_CPU)
 
-# The libraries for both targets, for the tests.
+# The libraries for the tests: for both targets, and one without SHA instructions.
 libraries:
 	./library.sh x86_64 $(LIBRARY_CPU)
+	SHA=no LIB=lib/without ./library.sh x86_64
 	./library.sh aarch64
 
 # All tests: the gate, then the programs that it built, the documents' examples, and Debian's programs beside them.
@@ -191,8 +196,8 @@ help:
 	@echo 'In brackets: what you can set, as in: make soak SECONDS=60'
 	@echo
 	@echo 'make run             7 minutes     proves and builds fsverity, and prints the digest of a file'
-	@echo 'make programs        11 minutes    proves and builds bin/fsverity and bin/veritysetup [TARGET, CPU, STATIC=yes]'
-	@echo 'make library         6 minutes     proves and builds the library for C [TARGET, CPU]'
+	@echo 'make programs        11 minutes    proves and builds bin/fsverity and bin/veritysetup [TARGET, CPU, STATIC=yes, SHA=no]'
+	@echo 'make library         6 minutes     proves and builds the library for C [TARGET, CPU, SHA=no]'
 	@echo 'make test            40 minutes    all tests: gate, the programs as a user runs them, documents, comparisons'
 	@echo 'make check           8 minutes +   all tests but the gate'
 	@echo 'make release-check   130 minutes   all tests in full, as before a release'
@@ -213,11 +218,11 @@ help:
 	@echo 'make bench-bindings  1 minute +    measures the bindings of the library beside calls from C'
 	@echo 'make reproducible    5 minutes +   builds once more in another folder, and compares the programs'
 	@echo 'make install         seconds       installs programs, pages and completion, and the library if it is built'
-	@echo '                                   [TARGET, CPU, STATIC=yes, PREFIX, DESTDIR, SUFFIX, STRIP=yes, BINDIR,'
-	@echo '                                   SBINDIR, MANDIR, BASHCOMPDIR, ZSHCOMPDIR, FISHCOMPDIR, LIBDIR, INCLUDEDIR]'
+	@echo '                                   [TARGET, CPU, STATIC=yes, SHA, PREFIX, DESTDIR, SUFFIX, STRIP=yes,'
+	@echo '                                   BINDIR, SBINDIR, MANDIR, BASHCOMPDIR, ZSHCOMPDIR, FISHCOMPDIR, LIBDIR, INCLUDEDIR]'
 	@echo 'make uninstall       seconds       removes what make install has installed; give it the same settings'
 	@echo 'make install-library seconds       installs the library alone; make uninstall-library removes it'
-	@echo '                                   [TARGET, CPU, PREFIX, DESTDIR, STRIP=yes, MANDIR, LIBDIR, INCLUDEDIR]'
+	@echo '                                   [TARGET, CPU, SHA, PREFIX, DESTDIR, STRIP=yes, MANDIR, LIBDIR, INCLUDEDIR]'
 	@echo 'make install-python  seconds       installs the module for Python; make uninstall-python removes it'
 	@echo '                                   [DESTDIR, PYTHON, PYTHONDIR]'
 	@echo 'make dist            seconds       makes an archive of what is committed, with the version in its name [DIST]'

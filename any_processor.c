@@ -2,7 +2,7 @@
  * any_processor.c - begins a program that has been compiled twice, for every x86-64 processor and for x86-64-v3. The
  * second is taken if the processor has all of that, and the system has switched it on.
  *
- * VERITY_PROCESSOR=x86-64 in the environment takes the first in any case. No other value changes anything.
+ * VERITY_PROCESSOR=x86-64 in the environment takes the first in any case. No other value changes which is taken.
  */
 #include <stdlib.h>
 #include <string.h>

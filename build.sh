@@ -5,8 +5,9 @@
 # CPU is a processor, x86-64, x86-64-v2 or x86-64-v3, or `any`: such a program has code for x86-64 and for x86-64-v3,
 # and chooses when it begins. If none is said it is x86-64-v2. With TARGET=aarch64 the program is for every 64-bit ARM
 # processor, and goes to bin/aarch64. With STATIC=yes it needs nothing of the system that runs it but the kernel, and
-# goes to bin/static or bin/aarch64/static. BIN=FOLDER takes another folder. A dynamic program for one processor of
-# x86-64 is linked by the toolchain, any other by its target's C compiler, of object files that are kept in bin/objects.
+# goes to bin/static or bin/aarch64/static. With SHA=no it has no SHA instructions, as it has none if there is no C
+# compiler. BIN=FOLDER takes another folder. A dynamic program for one processor of x86-64 is linked by the toolchain,
+# any other by its target's C compiler, of object files that are kept in bin/objects.
 #
 # A file NAME.made beside each program and object file keeps for what and of what it was built, so that nothing is done
 # if both are the same. With OVER_GATE=yes the crates below are those that the gate has just proved; KEPT=FOLDER keeps
@@ -19,10 +20,11 @@ crate=$1 program=$2 target=${TARGET:-x86_64} static=${STATIC:-no}
 cpu=${3:-}
 if [ "$target" = x86_64 ]; then cpu=${cpu:-x86-64-v2}; fi
 wrong=$(in_order "$target" "$cpu" "$static") || refuse "$wrong"
+with_sha
 folder=${BIN:-$(place "$target" "$static")}
 prefix=$(prefix_of "$target")
 # For which processors the program has code, and what it is called.
-processors=("${cpu:-$target}") kind=$(kind_of "$target" "$cpu" "$static")
+processors=("${cpu:-$target}") kind=$(kind_of "$target" "$cpu" "$static" "$sha")
 if [ "$cpu" = any ]; then processors=("${levels[@]}"); fi
 # How the C compiler links it, if it does.
 by_compiler=no linking=(-fPIE -pie)
@@ -34,40 +36,35 @@ scratch=$(mktemp -d)
 trap 'rm -rf "$scratch"' EXIT
 
 # What programs are built of, before any is: a source that changes meanwhile has changed.
-of=$({ sources && cat build.sh building.sh any_processor.c runtime_for_arm.c; } | sha256sum)
-
-# runs CPU: has `rt` prove and build the program, which leaves it with its object file in crates/CRATE/out. `rt run`
-# then runs it. Without arguments the program may refuse: what counts is that it was built.
-runs() {
-    local built=crates/$crate/out/$crate
-    rm -f "$built" "$built.o"
-    (cd "crates/$crate" && rt run "--cpu=$1" </dev/null 2>&1) | tee "$scratch/said" | name_proved || true
-    [ -x "$built" ] || failed "$crate is not proved or not built"
-}
+of=$({ sources && cat build.sh building.sh any_processor.c runtime_for_arm.c instructions/*; } | sha256sum)
 
 # proves CPU: proves the crate over those below, and compiles it for a processor.
 proves() {
-    over_proved "$crate" "$1" "$scratch/object" "${KEPT:-$scratch/kept}" >"$scratch/said" 2>&1 &&
+    local tools= lacking=
+    if [ "$sha" = yes ]; then
+        stand_in yes programs >"$scratch/said" 2>&1 || failed "instructions/clang_with_instructions.c can't be compiled"
+    fi
+    over_proved "$crate" "$1" "$scratch/object" "${KEPT:-$scratch/kept}" ${tools:+"$tools"} >"$scratch/said" 2>&1 &&
         grep -q '^logic=proved ' "$scratch/said" || failed "$crate is not proved or not built for $1"
+    if [ "$sha" = yes ]; then
+        # It hashes no messages side by side.
+        if [ "$crate" = bench_bare ]; then lacking=take_blocks_of_two; fi
+        counted "$1" "$scratch/object" "$lacking" >"$scratch/said" ||
+            failed "$crate has other SHA instructions than are expected"
+    fi
     echo "    $crate is proved for $1"
 }
 
 # object CPU: puts the program's object file for a processor into bin/objects, if something has changed. Sets `object`.
 object() {
+    local for=$1
     object=bin/objects/$program.$1.o
-    if is_made "$object" "$1"; then return; fi
+    if [ "$sha" = no ]; then for+=', without SHA instructions'; fi
+    if is_made "$object" "$for"; then return; fi
     echo "    building for $1"
-    if [ "${OVER_GATE:-no}" = yes ]; then
-        proves "$1"
-    elif [ "$1" = aarch64 ]; then
-        # Only `rt` proves the crates below.
-        runs x86-64
-        proves "$1"
-    else
-        runs "$1"
-        cp "crates/$crate/out/$crate.o" "$scratch/object"
-    fi
-    put_in_place "$scratch/object" "$object" "$1"
+    if [ "${OVER_GATE:-no}" = no ]; then proves_below "$crate" || failed "$crate is not proved or not built"; fi
+    proves "$1"
+    put_in_place "$scratch/object" "$object" "$for"
 }
 
 # links: links the object files, whose names are in `objects`, and leaves the program in $scratch. The program's own
@@ -84,7 +81,8 @@ links() {
         ;;
     aarch64,*)
         "${prefix}objcopy" --redefine-sym main=rattle_main "${objects[0]}" "$scratch/0.o"
-        words=(runtime_for_arm.c "$scratch/0.o")
+        # A static program has of the C library what it names, and SHA instructions only with this.
+        words=(-Wl,-u,getauxval runtime_for_arm.c "$scratch/0.o")
         ;;
     *) words=("${objects[@]}") ;;
     esac
@@ -100,11 +98,6 @@ links() {
 # builds: leaves the program in $scratch.
 builds() {
     local processor objects=() object
-    if [ $by_compiler = no ] && [ "${OVER_GATE:-no}" = no ]; then
-        runs "${processors[0]}"
-        cp "crates/$crate/out/$crate" "$scratch/program"
-        return
-    fi
     for processor in "${processors[@]}"; do
         object "$processor"
         objects+=("$object")

@@ -88,22 +88,75 @@ over_proved() {
     )
 }
 
-# with_instructions TO [WORDS FEATURES]: makes TO a folder like the toolchain's, for over_proved, whose clang puts SHA
-# instructions in the place of their models. For 64-bit ARM it takes further words too: WORDS are C strings with a comma
-# after each, and FEATURES are what they mean in LLVM's language, with a comma before each.
-with_instructions() {
-    local from file
-    from=$(dirname "$(rt doc)")/toolchain && mkdir -p "$1/bin" && cp -r "$from/lib" "$1/lib" || return
+# The stand-ins for clang that a build has made, and in which folder of $scratch each is.
+declare -A stand_ins=()
+
+# stand_in SHA FOR [WORDS FEATURES]: sets `tools` to a folder like the toolchain's, for over_proved, whose clang puts
+# SHA instructions in the place of their models if SHA is yes, for `programs` or for the `library`, as FOR says. For
+# 64-bit ARM it takes further words too: WORDS are C strings with a comma after each, and FEATURES are what they mean in
+# LLVM's language, with a comma before each.
+stand_in() {
+    local from file instructions
+    tools=${stand_ins[$*]:-}
+    if [ -n "$tools" ]; then return; fi
+    tools=$scratch/tools${#stand_ins[@]}
+    from=$(dirname "$(rt doc)")/toolchain && mkdir -p "$tools/bin" && cp -r "$from/lib" "$tools/lib" || return
     for file in "$from"/bin/*; do
-        if [ "${file##*/}" != clang ]; then ln -s "$file" "$1/bin/" || return; fi
+        if [ "${file##*/}" != clang ]; then ln -s "$file" "$tools/bin/" || return; fi
     done
-    cc -O1 -Wall -Wextra -D_GNU_SOURCE -DTOOLCHAIN="\"$from\"" -DFOLDER="\"$PWD/instructions\"" -DWORDS="${2:-}" \
-        -DFEATURES="\"${3:-}\"" instructions/clang_with_instructions.c -o "$1/bin/clang"
+    case $1 in yes) instructions=1 ;; *) instructions=0 ;; esac
+    cc -O1 -Wall -Wextra -D_GNU_SOURCE -DTOOLCHAIN="\"$from\"" -DFOLDER="\"$PWD/instructions\"" \
+        -DINSTRUCTIONS=$instructions -DFOR="\"$2\"" -DWORDS="${3:-}" -DFEATURES="\"${4:-}\"" \
+        instructions/clang_with_instructions.c -o "$tools/bin/clang" && stand_ins[$*]=$tools
 }
 
-# The programs. A build of them is described by three words: TARGET is x86_64 or aarch64; CPU is a processor of x86-64,
+# with_sha: sets `sha` to whether what is built gets SHA instructions, yes or no, as SHA in the environment says. If it
+# says nothing they are left out where there is no C compiler for the stand-in for clang.
+with_sha() {
+    sha=${SHA:-}
+    if [ -z "$sha" ]; then if type -P cc >/dev/null; then sha=yes; else sha=no; fi; fi
+    case $sha in
+    yes) type -P cc >/dev/null || refuse 'SHA=yes needs cc, which is not installed' ;;
+    no) ;;
+    *) refuse 'SHA is yes or no' ;;
+    esac
+}
+
+# counted TARGET FILE [NAME]: whether each SHA instruction stands as often in each function of an object file or archive
+# as its target's file in instructions/ says, and in no other function. If not, says so. Functions whose names end with
+# NAME may be missing.
+counted() {
+    local of=instructions/instructions_of_x86.ll kit
+    kit=$(dirname "$(rt doc)")
+    if [ "$1" = aarch64 ]; then of=instructions/instructions_of_arm.ll; fi
+    # The toolchain's clang is its objdump, too, by another name.
+    (exec -a llvm-objdump "$kit/toolchain/bin/clang" -d --no-show-raw-insn "$2") | awk '
+        FNR == NR { if (/^; In /) expected[$3 $4] = $5; next }
+        /^[0-9a-f]+ <.*>:$/ { name = substr($0, index($0, "<") + 1); sub(/>:$/, ":", name); there[name] }
+        $2 ~ /^sha[0-9]+[a-z]+[0-9]*$/ { found[name $2]++ }
+        END {
+            for (it in expected) {
+                name = substr(it, 1, match(it, /:[a-z0-9]*$/))
+                if (found[it] != expected[it] && !(lacking != "" && name ~ lacking ":$" && !(name in there)))
+                    wrong = wrong it " " found[it] + 0 " for " expected[it] "\n"
+            }
+            for (it in found) if (!(it in expected)) wrong = wrong it " " found[it] "\n"
+            printf "%s", wrong
+            exit wrong != ""
+        }' lacking="${3:-}" "$of" -
+}
+
+# proves_below CRATE: proves and keeps what a crate is proved over. Names each crate that had to be proved anew.
+proves_below() {
+    local name
+    for name in $(sed -nE "s/^$1( staticlib)?: //p" crates.txt); do
+        if [ -e "crates/$name" ]; then (cd "crates/$name" && rt lib </dev/null 2>&1) || return; fi
+    done | tee "$scratch/said" | name_proved
+}
+
+# The programs. A build of them is described by four words: TARGET is x86_64 or aarch64; CPU is a processor of x86-64,
 # or `any` for a program that has code for each of $levels and chooses when it begins, and is empty for aarch64; STATIC
-# is yes or no.
+# is yes or no, and so is SHA.
 levels=(x86-64 x86-64-v3)
 
 # in_order TARGET CPU STATIC: says what is wrong with a description, and fails, or says nothing.
@@ -124,10 +177,11 @@ in_order() {
     esac
 }
 
-# kind_of TARGET CPU STATIC: prints what a program is called that is built by this description.
+# kind_of TARGET CPU STATIC SHA: prints what a program is called that is built by this description.
 kind_of() {
     local kind=${2:-$1}
     if [ "$3" = yes ]; then kind+=', static'; fi
+    if [ "$4" = no ]; then kind+=', without SHA instructions'; fi
     echo "$kind"
 }
 

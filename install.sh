@@ -4,13 +4,14 @@
 # SBINDIR, MANDIR, BASHCOMPDIR, ZSHCOMPDIR, FISHCOMPDIR, LIBDIR and INCLUDEDIR are folders in place of those below
 # PREFIX, and DESTDIR stands before them too. A folder that is there keeps its mode. With STRIP=yes the programs and the
 # shared libraries are stripped. With TARGET=aarch64 it is the programs of bin/aarch64, and with STATIC=yes those of
-# bin/static or bin/aarch64/static. With CPU those that are built for another processor are refused. The pages and the
-# completion speak of the programs by these names. If the library for C is built for TARGET, that goes there too, by its
-# own names, with its header, its page, also under the name of each function, and what pkg-config says of it. install.sh
-# install-library|uninstall-library does this with the library alone. Its page speaks of the programs by their plain
-# names then. One target's library doesn't take the place of another's, and isn't removed in place of it. install.sh
-# install-python|uninstall-python does it with the module of bindings/python, below DESTDIR in PYTHONDIR, or where the
-# interpreter PYTHON looks for what is installed. Nothing is built here, so that no proof runs as root.
+# bin/static or bin/aarch64/static. With CPU those that are built for another processor are refused, with SHA=no those
+# that have SHA instructions, and with SHA=yes those that have none. The pages and the completion speak of the programs
+# by these names. If the library for C is built for TARGET, that goes there too, by its own names, with its header, its
+# page, also under the name of each function, and what pkg-config says of it. install.sh install-library|uninstall-library does this with the
+# library alone. Its page speaks of the programs by their plain names then. One target's library doesn't take the place
+# of another's, and isn't removed in place of it. install.sh install-python|uninstall-python does it with the module of
+# bindings/python, below DESTDIR in PYTHONDIR, or where the interpreter PYTHON looks for what is installed. Nothing is
+# built here, so that no proof runs as root.
 set -euo pipefail
 cd "$(dirname "$0")"
 . ./building.sh
@@ -25,6 +26,10 @@ esac
 case ${STATIC:=no} in
 yes | no) ;;
 *) refuse 'STATIC is yes or no' ;;
+esac
+case ${SHA:=} in
+yes | no | '') ;;
+*) refuse 'SHA is yes or no' ;;
 esac
 # The files of the library in the folder where it is built, and what links and strips them.
 case ${TARGET:=x86_64} in
@@ -129,11 +134,14 @@ lacks() {
     return 1
 }
 
-# is_for FILE KIND MAKE: refuses a file that is of another kind, if a CPU is asked for.
+# is_for FILE KIND MAKE: refuses a file that is of another kind, if a CPU is asked for, or one that has SHA instructions
+# or hasn't, where SHA asks for another.
 is_for() {
-    if [ -n "$CPU" ] && [ "$(head -n 1 "$1.made" 2>/dev/null)" != "$2" ]; then
-        refuse "$1 isn't built with CPU=$CPU: run '$3' first"
-    fi
+    local kind without=', without SHA instructions' sha=
+    kind=$(head -n 1 "$1.made" 2>/dev/null) || true
+    if [ -n "$CPU" ] && [ "${kind%"$without"}" != "$2" ]; then refuse "$1 isn't built with CPU=$CPU: run '$3' first"; fi
+    case $kind in *"$without") sha=no ;; ?*) sha=yes ;; esac
+    if [ -n "$SHA" ] && [ "$SHA" != "$sha" ]; then refuse "$1 isn't built with SHA=$SHA: run '$3' first"; fi
 }
 
 # making GOAL: prints by which command of make that is built.
@@ -141,7 +149,7 @@ making() {
     local make="make $1"
     if [ "$TARGET" != x86_64 ]; then make+=" TARGET=$TARGET"; fi
     if [ "$1:$STATIC" = programs:yes ]; then make+=' STATIC=yes'; fi
-    echo "$make${CPU:+ CPU=$CPU}"
+    echo "$make${CPU:+ CPU=$CPU}${SHA:+ SHA=$SHA}"
 }
 
 # installed_target: prints for which target a library is installed there, if one is: a file of pkg-config that doesn't
@@ -245,7 +253,7 @@ install_all() {
     make=$(making programs)
     if [ ! -x "$programs/fsverity" ] || [ ! -x "$programs/veritysetup" ]; then refuse "run '$make' first"; fi
     for name in "$programs/"{fsverity,veritysetup}; do
-        is_for "$name" "$(kind_of "$TARGET" "$CPU" "$STATIC")" "$make"
+        is_for "$name" "$(kind_of "$TARGET" "$CPU" "$STATIC" yes)" "$make"
     done
     if ! lacks "${archives[@]}" >/dev/null; then
         if file=$(lacks "${shared[@]}"); then

@@ -14,13 +14,15 @@
 # For aarch64, in lib/aarch64/, for every 64-bit ARM processor; none of them uses the register x18:
 #   libverity.a       static
 #   libverity-strict-align.a
-#                     static, for where memory is read at aligned addresses alone, as with the MMU off
+#                     static, for where memory is read at aligned addresses alone, as with the MMU off; it has no SHA
+#                     instructions
 #   libverity.so.2    shared
 #
 # Shared libraries, and all in glibc-hwcaps/, are left out if the compiler that links them isn't there. A file NAME.made
 # beside each keeps for what and of what it was built, so that nothing is done if both are the same. LIB=FOLDER takes
-# another folder than lib/, counted from here. With OVER_GATE=yes the crates below are those that the gate has just
-# proved; KEPT=FOLDER keeps what is the same for several builds.
+# another folder than lib/, counted from here. With SHA=no the libraries have no SHA instructions, as they have none for
+# x86-64 if there is no C compiler. With OVER_GATE=yes the crates below are those that the gate has just proved;
+# KEPT=FOLDER keeps what is the same for several builds.
 set -euo pipefail
 cd "$(dirname "$0")"
 . ./building.sh
@@ -44,8 +46,10 @@ esac
 if [ $# -gt 2 ]; then refuse 'only TARGET and CPU are taken'; fi
 for_v3=$folder/glibc-hwcaps/x86-64-v3
 crate=verity_c
-# For which processor `rt` has built the library in this run.
-ran_for=
+with_sha
+# What the libraries are called that have none of these instructions, which others have.
+without=
+if [ "$sha" = no ]; then without=', without SHA instructions'; fi
 scratch=$(mktemp -d)
 trap 'rm -rf "$scratch"' EXIT
 
@@ -54,7 +58,7 @@ of=$({ sources && cat library.sh building.sh instructions/*; } | sha256sum)
 
 # stays FILE FOR: whether the file was built for this, and nothing has changed. Says so.
 stays() {
-    is_made "$1" "$2" && echo "$1: built for $2, and nothing has changed"
+    is_made "$1" "$2$without" && echo "$1: built for $2$without, and nothing has changed"
 }
 
 # stands CPU: whether the static library for a processor stands in its folder, and nothing has changed. Leaves it in
@@ -62,7 +66,7 @@ stays() {
 stands() {
     local built
     for built in "$folder" "$for_v3"; do
-        if is_made "$built/libverity.a" "$1"; then
+        if is_made "$built/libverity.a" "$1$without"; then
             cp "$built/libverity.a" "$scratch/$1.a"
             return
         fi
@@ -73,37 +77,25 @@ stands() {
 # archive CPU: proves and builds the static library for a processor of x86-64, or with `aarch64` or
 # `aarch64-strict-align` for 64-bit ARM, and leaves it in $scratch.
 archive() {
-    local to=$scratch/$1.a native=$1
+    local with=$sha words=() tools=
     echo "    building for $1"
-    if [ "${OVER_GATE:-no}" = yes ]; then
-        proves "$1" "$to"
-        return
-    fi
-    case $1 in aarch64*) native=x86-64 ;; esac
-    if [ "$ran_for" != "$native" ]; then
-        (cd "crates/$crate" && rm -f "out/lib$crate.a" && rt lib "--cpu=$native" </dev/null 2>&1) |
-            tee "$scratch/said" | name_proved || true
-        [ -e "crates/$crate/out/lib$crate.a" ] || failed 'the library is not proved or not built'
-        ran_for=$native
-    fi
-    if [ "$1" != "$native" ]; then proves "$1" "$to"; else cp "crates/$crate/out/lib$crate.a" "$to"; fi
-}
-
-# proves CPU TO: proves and compiles the library over the crates below as they have been proved.
-proves() {
-    local tools=()
-    # x18 is the platform's: U-Boot's `gd`, Android's shadow call stack.
+    if [ "${OVER_GATE:-no}" = no ]; then proves_below "$crate" || failed 'the library is not proved or not built'; fi
+    # x18 is the platform's: U-Boot's `gd`, Android's shadow call stack. With the MMU off there may be no C library that
+    # knows the processor.
     case $1 in
-    aarch64) tools=('"-ffixed-x18",' ',+reserve-x18') ;;
-    aarch64-strict-align) tools=('"-ffixed-x18","-mstrict-align",' ',+reserve-x18,+strict-align') ;;
+    aarch64) words=('"-ffixed-x18",' ',+reserve-x18') ;;
+    aarch64-strict-align) with=no words=('"-ffixed-x18","-mstrict-align",' ',+reserve-x18,+strict-align') ;;
     esac
-    if [ ${#tools[@]} -gt 0 ]; then
-        with_instructions "$scratch/$1" "${tools[@]}" >"$scratch/said" 2>&1 ||
+    if [ "$with" = yes ] || [ ${#words[@]} -gt 0 ]; then
+        stand_in "$with" library "${words[@]}" >"$scratch/said" 2>&1 ||
             failed "instructions/clang_with_instructions.c can't be compiled"
-        tools=("$scratch/$1")
     fi
-    over_proved "$crate" "${1%-strict-align}" "$2" "${KEPT:-$scratch/kept}" "${tools[@]}" >"$scratch/said" 2>&1 &&
-        grep -q '^logic=proved ' "$scratch/said" || failed "the library is not proved or not built for $1"
+    over_proved "$crate" "${1%-strict-align}" "$scratch/$1.a" "${KEPT:-$scratch/kept}" ${tools:+"$tools"} \
+        >"$scratch/said" 2>&1 && grep -q '^logic=proved ' "$scratch/said" || failed "the library is not proved or not built for $1"
+    if [ "$with" = yes ]; then
+        counted "$1" "$scratch/$1.a" >"$scratch/said" ||
+            failed 'the library has other SHA instructions than are expected'
+    fi
     echo "    $crate is proved for $1"
 }
 
@@ -122,7 +114,7 @@ takes() {
 static() {
     if ! stays "$1" "$2"; then
         takes "$1" "$2" copying
-        put_in_place "$scratch/$2.a" "$1" "$2"
+        put_in_place "$scratch/$2.a" "$1" "$2$without"
     fi
 }
 
@@ -136,7 +128,7 @@ shared() {
             -Wl,--no-whole-archive -Wl,-soname,libverity.so.2 -Wl,-z,noexecstack -Wl,-z,relro -Wl,-z,now \
             -Wl,--build-id=none "-Wl,--version-script,$scratch/shown" >"$scratch/said" 2>&1 ||
             failed "the shared library can't be linked"
-        put_in_place "$scratch/shared" "$1" "$2"
+        put_in_place "$scratch/shared" "$1" "$2$without"
     fi
 }
 

@@ -4,7 +4,7 @@
 
 # The settings of other commands change nothing.
 unset BIN LIB TARGET STATIC CPU KEPT OVER_GATE TAR_OPTIONS GZIP
-export LC_ALL=C
+export LC_ALL=C SHA=yes
 umask 022
 scratch=$(mktemp -d)
 trap 'rm -rf "$scratch"' EXIT
@@ -15,7 +15,7 @@ as_committed() {
     if [ ! -e .git ] || ! git rev-parse --verify --quiet 'HEAD^{commit}' >/dev/null; then
         refuse 'this is made of a commit, and no git repository is here'
     fi
-    changed=$(git diff --name-only HEAD && git ls-files --others --exclude-standard crates)
+    changed=$(git diff --name-only HEAD && git ls-files --others --exclude-standard crates instructions)
     if [ -n "$changed" ]; then refuse "$(head -n 1 <<<"$changed") is not committed, and this is made of a commit"; fi
 }
 

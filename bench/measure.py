@@ -52,9 +52,9 @@ def least(commands):
     return best
 
 
-def format_words(program, function, block, image):
+def format_words(program, function, block, image, data="data"):
     sizes = [f"--data-block-size={block}", f"--hash-block-size={block}"]
-    return [program, "format", f"--hash={function}", *sizes, f"--salt={SALT}", at("data"), image]
+    return [program, "format", f"--hash={function}", *sizes, f"--salt={SALT}", at(data), image]
 
 
 def block_commands(function, block):
@@ -118,11 +118,25 @@ def files(folder, count, length):
     return names
 
 
-def small():
+def gibibyte(name, parts_of_zeros):
+    """Makes DATA of 1 GiB, of which so many of four parts are zeros, again and again."""
+    with open(at("data"), "rb") as it:
+        part = it.read(1 << 20)
+    with open(at(name), "wb") as it:
+        for _ in range(256):
+            it.write(part * (4 - parts_of_zeros) + bytes(len(part) * parts_of_zeros))
+
+
+def single_commands():
+    gibibyte("full", 0)
+    gibibyte("zeros", 3)
     few, long, many = files("few", FILES, 1000), files("long", FILES, 20000), files("many", 20 * FILES // 3, 500)
     open(at("empty"), "w", encoding="ascii").close()
     commands = {}
     for who, programs in PROGRAMS.items():
+        for data, what in (("full", ""), ("zeros", ", three quarters of it zeros")):
+            words = format_words(programs["veritysetup"], "sha256", 4096, at("made"), data)
+            commands[f"`veritysetup format`, 1 GiB{what}", who] = words
         digest = [programs["fsverity"], "digest"]
         commands[f"`fsverity digest`, {len(few)} files of 1000 bytes", who] = [*digest, *few]
         commands[f"`fsverity digest`, {len(long)} files of 20000 bytes", who] = [*digest, *long]
@@ -194,7 +208,7 @@ def surroundings():
     avx2 = "with AVX2" if "avx2" in flags else "without AVX2"
     sha = "with SHA instructions" if "sha_ni" in flags else "without SHA instructions"
     if WITHOUT_SHA and "sha_ni" in flags:
-        sha += ", from which Debian's programs are kept"
+        sha += ", from which all are kept"
     built = set()
     for program in (*OURS.values(), *PROGRAMS.get("OTHER's", {}).values()):
         with open(f"{program}.made", encoding="ascii") as it:
@@ -210,9 +224,10 @@ def surroundings():
 if WITHOUT_SHA:
     # OPENSSL_ia32cap(3): Debian's programs hash by OpenSSL, which leaves out what is switched off here.
     os.environ["OPENSSL_ia32cap"] = ":~0x20000000"
+    os.environ["VERITY_PROCESSOR"] = "x86-64-v3"
 with open(at("data"), "wb") as data:
     data.write(b"".join(b"%d\n" % number for number in range((SIZE << 20) // 6))[: SIZE << 20].ljust(SIZE << 20, b"."))
 surroundings()
 throughput()
-small()
+single_commands()
 memory()

@@ -3,9 +3,9 @@
  * were accepted are kept, so that they aren't read again for each data block.
  *
  * This file and checked_blocks.c are there to be copied, into a boot loader, a server of blocks or a file system. They
- * are C11 and need libverity alone, which calls memcpy, memmove and memset (boot_check.c has them): no C library, and
- * no memory but what the caller hands in. boot_check.c and
- * nbdkit-verity-plugin.c use them, and their comments say how checked_blocks.c is compiled with them.
+ * are C11 and need libverity alone, which needs memcpy, memmove and memset (boot_check.c has them): no C library, and
+ * no memory but what the caller hands in. boot_check.c and nbdkit-verity-plugin.c use them, and their comments say how
+ * checked_blocks.c is compiled with them.
  *
  * The devices may give anything, and something else each time:
  *   - a block is checked where it was read, and isn't read twice;

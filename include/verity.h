@@ -4,9 +4,10 @@
  * Each function is proved: whatever numbers, bytes and structs it is handed, it returns, and its answer is that of the
  * definitions. Of a tree that is built in pieces or from parts, hash blocks, digests and root hash are so only while
  * struct and memory stand as the call before left them, and a join is handed the digests of its parts (what holds
- * otherwise is said below). The library takes no memory, keeps nothing between calls, opens and prints nothing, and
- * takes no lock: any number of threads may call it at once, but only one at a time with the struct and the memory of
- * one tree, part or join. It calls memcpy, memmove and memset, and nothing else.
+ * otherwise is said below). The library takes no memory, keeps nothing of a call for the next but what it asked the
+ * processor (below), opens and prints nothing, and takes no lock: any number of threads may call it at once, but only
+ * one at a time with the struct and the memory of one tree, part or join. It calls memcpy, memmove and memset, and
+ * nothing else but, on 64-bit ARM, getauxval.
  *
  * What every caller owes, since it can't be checked here:
  *   - a pointer points to as many bytes as the length after it says, or to a whole struct or number; structs and
@@ -49,22 +50,28 @@
  *     is read or written. libverity-strict-align.a reads and writes memory at aligned addresses alone, as is needed
  *     with the MMU off; where that or x18 matters, memcpy, memmove and memset have to be compiled so, too.
  *
+ * It hashes by SHA instructions where the processor has them. On x86-64 it asks the processor once, by CPUID, and keeps
+ * the answer in one byte, which every thread sets to the same. On 64-bit ARM it asks getauxval(AT_HWCAP); where there
+ * is no such function, and in a static program that doesn't name it, it goes without. A library that is built with
+ * SHA=no, and libverity-strict-align.a always, has no SHA instructions and no variables, and calls memcpy, memmove and
+ * memset alone.
+ *
  * The stack is aligned to 16 bytes at each call, as these ABIs want. Bytes may stand at any address. The library has no
- * variables, so that a call may come at any time, from a signal or interrupt handler also. It has no unwind tables
- * (.eh_frame): neither a backtrace nor an exception gets through a call. It has no landing pads for IBT or BTI
- * (endbr64, bti), signs no pointers (PAC), and has no note (.note.gnu.property) that marks it for these or for shadow
- * stacks, so that no program is marked that it is linked into. On x86-64 it also jumps by tables, so that it can't run
- * where IBT is on.
+ * variables but that byte, so that a call may come at any time, from a signal or interrupt handler also. It has no
+ * unwind tables (.eh_frame): neither a backtrace nor an exception gets through a call. It has no landing pads for IBT
+ * or BTI (endbr64, bti), signs no pointers (PAC), and has no note (.note.gnu.property) that marks it for these or for
+ * shadow stacks, so that no program is marked that it is linked into. On x86-64 it also jumps by tables, so that it
+ * can't run where IBT is on.
  *
  * A call takes up to 12 KiB of stack on either target, and one that feeds or ends up to 16 KiB, with
  * libverity-strict-align.a up to 18 KiB. These are the most bytes that a call can take by the library's code, whatever
- * it is handed, but for what memcpy, memmove and memset take:
+ * it is handed, but for what memcpy, memmove, memset and getauxval take:
  *
  *                                                 x86-64   64-bit ARM   libverity-strict-align.a
- *     a part that is fed or ended                  16280        14976                      18192
- *     a tree that is fed or ended                  15768        14512                      17696
- *     a join that is fed or ended, a file digest   10088         9312                      11472
- *     a block that is checked                       8472         7632                       9776
+ *     a part that is fed or ended                  15208        14464                      17200
+ *     a tree that is fed or ended                  14696        14000                      16704
+ *     a join that is fed or ended, a file digest   10120         9280                      11552
+ *     a block that is checked                       8584         7712                       9856
  *     any other call                                3112         3136                       3120
  *
  * Data that is written, copied or downloaded is fed to a tree as it comes, in pieces of any length, 0 too. The

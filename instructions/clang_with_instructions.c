@@ -4,9 +4,10 @@
  * that a file of LLVM's language defines anew, and the real clang compiles the result.
  *
  * rattle starts clang by the loader in its folder, so this is a program and no script. TOOLCHAIN is the toolchain's own
- * folder, and FOLDER that of the files. For 64-bit ARM, WORDS are further words for clang, strings with a comma after
- * each, and FEATURES what they mean in LLVM's language. Where a function's head isn't the one that is defined anew, the
- * build fails.
+ * folder, and FOLDER that of the files. FOR is `programs` or `library`: what decides whether the instructions are
+ * wanted. For 64-bit ARM, WORDS are further words for clang, strings with a comma after each, and FEATURES what they
+ * mean in LLVM's language. Where a function's head isn't the one that is defined anew, the build fails. If INSTRUCTIONS
+ * is 0, nothing is replaced, and clang only gets the words.
  */
 #include <stdio.h>
 #include <stdlib.h>
@@ -30,13 +31,18 @@ struct target {
     char *words[16];
 };
 
+#if INSTRUCTIONS
+#define SHA2 "-Xclang", "-target-feature", "-Xclang", "+sha2",
+#else
+#define SHA2
+#endif
 #define ARM "+v8a,+fp-armv8,+neon,+outline-atomics" FEATURES ",+sha2,+sha3"
 static const struct target targets[] = {
     {"--target=x86_64-", FOLDER "/instructions_of_x86.ll", {{"sha_instructions::", "+sha,+sse4.1,+ssse3"}}, {NULL}},
     {"--target=aarch64-",
      FOLDER "/instructions_of_arm.ll",
      {{"sha_instructions::sha_512::", ARM}, {"sha_instructions::instructions::sha512", ARM}},
-     {WORDS "-Xclang", "-target-feature", "-Xclang", "+sha2", NULL}},
+     {WORDS SHA2 NULL}},
 };
 
 static void fails(const char *why, const char *what)
@@ -113,7 +119,10 @@ static const char *defined_anew(const char *text, const char *name, size_t lengt
     return NULL;
 }
 
-/* Writes the line that begins a definition, with the features that the function may use. */
+/*
+ * Writes the line that begins a definition, with the features that the function may use. It then has no red zone either:
+ * it calls nothing, so it would be the first to use one.
+ */
 static void puts_head(const struct target *target, const char *line, FILE *out)
 {
     const char *features = NULL, *name;
@@ -128,7 +137,7 @@ static void puts_head(const struct target *target, const char *line, FILE *out)
     }
     fprintf(out, "%.*s", (int)strlen(line) - 1, line);
     if (features != NULL)
-        fprintf(out, "\"target-features\"=\"%s\" ", features);
+        fprintf(out, "noredzone \"target-features\"=\"%s\" ", features);
     fprintf(out, "{\n");
 }
 
@@ -229,7 +238,7 @@ int main(int argc, char **argv)
     }
     if (target == NULL && bitcode != 0)
         fails("its target isn't known", argv[bitcode]);
-    if (bitcode == 0)
+    if (bitcode == 0 || !INSTRUCTIONS)
         becomes_clang(argv + 1, target == NULL ? none : target->words);
     /* In the folder of the bitcode, which is rattle's own for this build. */
     path = malloc(strlen(argv[bitcode]) + 8);
@@ -246,6 +255,7 @@ int main(int argc, char **argv)
     replaced = replaces(target, text, anew, out);
     if (replaced != 0 && puts_rest(anew, out) != replaced)
         fails("not each function is there that is defined anew", target->file);
+    fputs(text_of(FOLDER "/wanted_by_" FOR ".ll"), out);
     if (ferror(out) || fclose(out) != 0)
         fails("can't be written", path);
     if (replaced != 0)

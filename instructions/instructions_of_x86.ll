@@ -11,6 +11,9 @@ start:
   %fresh = icmp eq i8 %known, 0
   br i1 %fresh, label %ask, label %answer
 ask:
+  %wanted = call i1 @sha_instructions_wanted()
+  br i1 %wanted, label %first, label %keep
+first:
   %l0 = call { i32, i32, i32, i32 } asm sideeffect "cpuid", "={ax},={bx},={cx},={dx},{ax},{cx},~{dirflag},~{fpsr},~{flags}"(i32 0, i32 0)
   %most = extractvalue { i32, i32, i32, i32 } %l0, 0
   %has7 = icmp uge i32 %most, 7
@@ -27,7 +30,7 @@ more:
   %all = and i1 %has_sse, %has_sha
   br label %keep
 keep:
-  %is = phi i1 [ false, %ask ], [ %all, %more ]
+  %is = phi i1 [ false, %ask ], [ false, %first ], [ %all, %more ]
   %kept = select i1 %is, i8 2, i8 1
   store atomic i8 %kept, ptr @sha_instructions_answer monotonic, align 1
   br label %answer
@@ -125,3 +128,19 @@ declare <4 x i32> @llvm.x86.sha1msg2(<4 x i32>, <4 x i32>)
 declare <4 x i32> @llvm.x86.sha256rnds2(<4 x i32>, <4 x i32>, <4 x i32>)
 declare <4 x i32> @llvm.x86.sha256msg1(<4 x i32>, <4 x i32>)
 declare <4 x i32> @llvm.x86.sha256msg2(<4 x i32>, <4 x i32>)
+
+; How often each instruction stands in each function, of which a program may lack some.
+; In sha_instructions::sha_1::take_blocks: sha1msg1 16
+; In sha_instructions::sha_1::take_blocks: sha1msg2 16
+; In sha_instructions::sha_1::take_blocks: sha1nexte 21
+; In sha_instructions::sha_1::take_blocks: sha1rnds4 20
+; In sha_instructions::sha_1::take_blocks_of_two: sha1msg1 32
+; In sha_instructions::sha_1::take_blocks_of_two: sha1msg2 32
+; In sha_instructions::sha_1::take_blocks_of_two: sha1nexte 42
+; In sha_instructions::sha_1::take_blocks_of_two: sha1rnds4 40
+; In sha_instructions::sha_256::take_blocks: sha256msg1 12
+; In sha_instructions::sha_256::take_blocks: sha256msg2 12
+; In sha_instructions::sha_256::take_blocks: sha256rnds2 32
+; In sha_instructions::sha_256::take_blocks_of_two: sha256msg1 24
+; In sha_instructions::sha_256::take_blocks_of_two: sha256msg2 24
+; In sha_instructions::sha_256::take_blocks_of_two: sha256rnds2 64

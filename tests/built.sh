@@ -1,18 +1,20 @@
 #!/usr/bin/env bash
-# Takes the programs that the gate built into bin/x86-64-v2/, and builds others over what it has proved:
+# Takes the programs that the gate built, which have no SHA instructions, into bin/x86-64-v2/, and builds others over
+# what it has proved:
 #   bin/x86-64-v3/          for that, if this processor has all of it
 #   bin/any/                for every x86-64 processor
 #   bin/static/             the same, static
 #   bin/aarch64/            for 64-bit ARM
 #   bin/aarch64/static/     the same, static
-# bin/ gets those for this processor, and lib/ the library for C. Below bin/imitated/ are commands that begin them by
-# qemu. The gate removes what earlier runs left before it begins, so these are the programs that it has just proved.
+# bin/ gets those for this processor, lib/ the library for C, and lib/without/ one without SHA instructions. Below
+# bin/imitated/ are commands that begin them by qemu. The gate removes what earlier runs left before it begins, so these
+# are the programs that it has just proved.
 set -u
 cd "$(dirname "$0")/.."
 . tests/lib/checks.sh
 . tests/lib/kinds.sh
 needs rt 'none: the Rattle toolchain'
-unset BIN LIB TARGET STATIC
+unset BIN LIB TARGET STATIC SHA
 programs=(fsverity veritysetup)
 cpu=$(./processor.sh)
 kinds=" $(kinds | tr '\n' ' ')"
@@ -49,13 +51,15 @@ builds() {
 builds_libraries() {
     local target
     for target in x86_64 aarch64; do built $target KEPT="$scratch/libraries.kept" ./library.sh $target; done
+    # Without a C compiler there are no SHA instructions, and the static library alone.
+    built without KEPT="$scratch/libraries.kept" LIB=lib/without PATH="$(path_without cc)" ./library.sh x86_64
 }
 
 # What the gate built, before anything takes its place.
 for name in "${programs[@]}"; do
     mkdir -p bin/x86-64-v2
     if cp "crates/${name}_cli/out/${name}_cli" "bin/x86-64-v2/$name"; then
-        echo x86-64-v2 >"bin/x86-64-v2/$name.made"
+        echo 'x86-64-v2, without SHA instructions' >"bin/x86-64-v2/$name.made"
         pass
     else
         fail "bin/x86-64-v2/$name" 'it was not built'

@@ -220,6 +220,12 @@ terminal() {
 }
 
 hashing
+# And without SHA instructions, where the processor has them.
+if grep -qs '^qemu-aarch64' "$BIN/imitated"; then
+    VERITY_PROCESSOR=armv8-a hashing
+elif grep -q '^flags.* sha_ni' /proc/cpuinfo; then
+    VERITY_PROCESSOR=x86-64-v3 hashing
+fi
 little_stack
 if grep -qs '^qemu-x86_64' "$BIN/imitated"; then
     finish

@@ -1,17 +1,17 @@
 #!/usr/bin/env bash
-# What `make programs` builds by TARGET, CPU and STATIC, and what it refuses before anything is proved. Programs whose
+# What `make programs` builds by TARGET, CPU, STATIC and SHA, and what it refuses before anything is proved. Programs whose
 # object files stand are linked again, to the same bytes. Here `rt` doesn't prove, so that no check waits for it.
 set -u
 cd "$(dirname "$0")/.."
 . tests/lib/checks.sh
 needs rt 'none: the Rattle toolchain'
 needs make make
-unset BIN TARGET STATIC CPU OVER_GATE KEPT
+unset BIN TARGET STATIC CPU SHA OVER_GATE KEPT
 
 # What make calls build.sh with: here, one that says so.
 mkdir "$scratch/said"
 cp Makefile processor.sh "$scratch/said"
-printf '%s\n' '#!/bin/sh' 'echo "TARGET=$TARGET STATIC=$STATIC $*"' >"$scratch/said/build.sh"
+printf '%s\n' '#!/bin/sh' 'echo "TARGET=$TARGET STATIC=$STATIC${SHA:+ SHA=$SHA} $*"' >"$scratch/said/build.sh"
 chmod +x "$scratch/said/build.sh"
 
 # calls DESCRIPTION CPU WORD..: make programs with these words builds both programs by this description.
@@ -28,6 +28,7 @@ calls 'TARGET=x86_64 STATIC=yes' any CPU=any STATIC=yes
 calls 'TARGET=aarch64 STATIC=no' '' TARGET=aarch64
 calls 'TARGET=aarch64 STATIC=yes' '' TARGET=aarch64 STATIC=yes
 calls 'TARGET=aarch64 STATIC=no' any TARGET=aarch64 CPU=any
+calls 'TARGET=x86_64 STATIC=no SHA=no' "$here" SHA=no
 same 'CPU in the environment' "TARGET=x86_64 STATIC=no fsverity_cli fsverity $here" \
     "$(CPU=any make -s -C "$scratch/said" --no-print-directory programs | sed -n 1p)"
 
@@ -35,7 +36,7 @@ same 'CPU in the environment' "TARGET=x86_64 STATIC=no fsverity_cli fsverity $he
 copy=$scratch/copy
 tools=$(path_without_proofs)
 mkdir "$copy"
-tar -c --exclude='crates/*/out' crates.txt {build,building}.sh {any_processor,runtime_for_arm}.c crates |
+tar -c --exclude='crates/*/out' crates.txt {build,building}.sh {any_processor,runtime_for_arm}.c instructions crates |
     tar -x -C "$copy"
 if [ -e bin ]; then cp -r bin "$copy"; fi
 
@@ -53,6 +54,7 @@ runs 'another target' 1 '' 'build.sh: TARGET is x86_64 or aarch64' builds TARGET
 runs 'another processor' 1 '' 'build.sh: CPU is x86-64, x86-64-v2, x86-64-v3 or any' builds -- x86-64-v4
 runs 'a processor for 64-bit ARM' 1 '' 'build.sh: CPU is for x86_64 alone' builds TARGET=aarch64 -- any
 runs 'a STATIC that is neither yes nor no' 1 '' 'build.sh: STATIC is yes or no' builds STATIC=1 --
+runs 'a SHA that is neither yes nor no' 1 '' 'build.sh: SHA is yes or no' builds SHA=1 --
 
 # sources_in LOCALE: the sum of what is built, with a `sort` that goes by the locale: backwards, if it isn't C.
 sources_in() {
@@ -79,6 +81,10 @@ lacks 'no C compiler, static' cc STATIC=yes -- any
 lacks 'no C compiler, for every processor' cc -- any
 lacks 'no C compiler for 64-bit ARM' aarch64-linux-gnu-gcc TARGET=aarch64 --
 lacks 'no C compiler for 64-bit ARM, static' aarch64-linux-gnu-gcc TARGET=aarch64 STATIC=yes --
+usual=$tools tools=$(PATH=$tools path_without cc)
+runs 'SHA=yes without a C compiler' 1 '' 'build.sh: SHA=yes needs cc, which is not installed' builds SHA=yes -- x86-64-v2
+tools=$usual
+rm -f "$copy/bin/objects/fsverity.x86-64-v2.o"
 runs 'what is not proved' 1 any 'build.sh: fsverity_cli is not proved or not built' builds BIN=bin/other -- x86-64-v2
 absent 'what is not proved' "$copy/bin/other"
 
@@ -105,6 +111,8 @@ again() {
         builds "$@"
 }
 
+# One for x86-64-v2 is no longer there.
+if [ "$here" = x86-64-v3 ]; then again x86-64-v3 bin -- x86-64-v3; fi
 again any bin/any BIN=bin/any -- any
 again 'any, static' bin/static STATIC=yes -- any
 again aarch64 bin/aarch64 TARGET=aarch64 --

@@ -85,7 +85,7 @@ again() {
     (
         umask 077
         export TZ=Asia/Tokyo LC_ALL=C.UTF-8 GZIP=--rsyncable TAR_OPTIONS=--exclude=*.md BIN=none LIB=none PREFIX=/opt \
-            SUFFIX=x STRIP=yes LIBDIR=/lib64 TARGET=none STATIC=no DEB_BUILD_OPTIONS='nostrip parallel=3' \
+            SUFFIX=x STRIP=yes LIBDIR=/lib64 TARGET=none STATIC=no SHA=no DEB_BUILD_OPTIONS='nostrip parallel=3' \
             SOURCE_DATE_EPOCH=1 DEB_HOST_ARCH=i386
         make -s -C "$other" --no-print-directory deb
     ) >"$scratch/.made" 2>&1 </dev/null

@@ -9,6 +9,7 @@ has_program fsverity
 has_program veritysetup
 needs qemu-x86_64 qemu-user
 cpu=$(head -n 1 "$BIN/fsverity.made")
+cpu=${cpu%, without SHA instructions}
 printf a >"$scratch/one"
 sample 8192 >"$scratch/data"
 

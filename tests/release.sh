@@ -39,7 +39,7 @@ sleep 1
 (
     umask 077
     export TZ=Asia/Tokyo LC_ALL=C.UTF-8 GZIP=--rsyncable TAR_OPTIONS=--exclude=*.md BIN=none LIB=none PREFIX=/opt \
-        SUFFIX=x STRIP=no LIBDIR=/lib64 TARGET=none STATIC=no
+        SUFFIX=x STRIP=no LIBDIR=/lib64 TARGET=none STATIC=no SHA=no
     make -s -C "$other" --no-print-directory release
 ) >"$scratch/.made" 2>&1 </dev/null
 same 'make release, elsewhere: status' 0 $?

@@ -12,6 +12,7 @@ has_program veritysetup
 needs_other veritysetup cryptsetup-bin
 
 sample $((4097 * 4096)) >"$scratch/all"
+put_zeros "$scratch/all"
 own=$scratch/own.img
 peer=$scratch/peer.img
 

@@ -41,6 +41,7 @@ over_settings() {
     local size algorithm block salt options
     for size in "${sizes[@]}"; do
         sample "$size" >"$scratch/$size"
+        put_zeros "$scratch/$size"
         same_outputs "$size"
         for algorithm in sha256 sha512; do
             for block in 1024 4096; do

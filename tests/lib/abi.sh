@@ -23,20 +23,26 @@ finds() {
     if [ "$2" = 0 ] && [ "$count" != 0 ]; then grep -E -- "$3" "$4" | grep -vE -- "${5:-^$}" | head -n 3; fi
 }
 
-# has_no_marks LIBRARY PREFIX: no unwind tables, no notes of what the code is made for, and no variables. PREFIX stands
-# before the names of binutils.
+# has_no_marks LIBRARY PREFIX: no unwind tables, no notes of what the code is made for, and no variables, but with SHA
+# instructions of x86-64 the answer of the processor. PREFIX stands before the names of binutils.
 has_no_marks() {
-    local library=$1 prefix=${2:-} name=${1##*/}
+    local library=$1 prefix=${2:-} name=${1##*/} variables='0000000000000001 sha_instructions_answer' section=.bss
+    if [ -n "$prefix" ] || grep -q '^x86-64.*, without SHA instructions$' "$library.made"; then
+        variables='' section=''
+    fi
     "${prefix}readelf" -SW "$library" >"$scratch/sections"
     # Of a shared library the linker leaves the section, of no bytes.
     same "unwind tables of $name" '' "$(sed 's/.*\] //' "$scratch/sections" |
         awk '/^\.(eh_frame|debug_frame|gcc_except_table)/ && $5 !~ /^0+$/ { print $1 }')"
     same "notes of $name" '' "$(sed -nE 's/.*(\.note\.gnu\.property).*/\1/p' "$scratch/sections")"
     case $library in
-    *.a) same "variables of $name" '' "$("${prefix}nm" "$library" | awk 'NF > 1 && $(NF - 1) ~ /^[BbCDdGgSsVvWw]$/')" ;;
+    *.a)
+        same "variables of $name" "$variables" "$("${prefix}nm" -S "$library" |
+            awk 'NF > 1 && $(NF - 1) ~ /^[BbCDdGgSsVvWw]$/ && $NF != "getauxval" { print (NF > 3 ? $(NF - 2) " " : "") $NF }')"
+        ;;
     # A table of texts is relocated when the library is loaded, and read only from then on.
     *)
-        same "variables of $name" '' \
+        same "variables of $name" "$section" \
             "$(sed -nE '/\.data\.rel\.ro /d; s/.*\] (\.t?bss|\.t?data)[ .].*/\1/p' "$scratch/sections")"
         ;;
     esac

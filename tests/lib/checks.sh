@@ -7,7 +7,7 @@ PATH=$PATH:/usr/sbin:/sbin
 # What the user has set changes nothing here.
 export LC_ALL=C
 umask 022
-unset MAKEFLAGS MFLAGS MAKELEVEL
+unset MAKEFLAGS MFLAGS MAKELEVEL VERITY_PROCESSOR
 LEFT_OUT=77
 checked=0
 failed=0
@@ -221,6 +221,16 @@ with_scarce_memory() {
 # sample COUNT: writes so many bytes that follow no short pattern, always the same.
 sample() {
     seq 1 $(($1 / 2 + 8)) | head -c "$1"
+}
+
+# put_zeros FILE: zeros in place of half of its bytes, in runs that get longer.
+put_zeros() {
+    local at=300 size
+    size=$(stat -c %s "$1")
+    while [ $((at * 2)) -le "$size" ]; do
+        zeros $at | dd of="$1" conv=notrunc oflag=seek_bytes seek=$at status=none
+        at=$((at * 3))
+    done
 }
 
 # The fs-verity digests of a file of the one letter `a` and of an empty one, as docs/DEFINITIONS.md has them.

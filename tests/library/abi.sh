@@ -16,7 +16,7 @@ needs readelf binutils
 states 'rbx, rbp, r12 to r15, MXCSR, the x87 control word and the direction flag;' \
     "x87 and MMX registers aren't used." \
     "Nothing below the stack pointer is read or written, so the library doesn't use the red zone." \
-    'The library has no variables' \
+    'The library has no variables but that byte' 'has no SHA instructions and no variables' \
     'It has no unwind tables (.eh_frame)' \
     'It has no landing pads for IBT or BTI (endbr64, bti), signs no pointers (PAC)' \
     'no note (.note.gnu.property) that marks it for these or for shadow stacks' \
@@ -45,7 +45,16 @@ for library in libverity.a libverity.so.2; do
     code_of "$LIB/$library" xmm
     objdump -d --no-show-raw-insn "$LIB/$library" >"$scratch/code"
     finds "registers of AVX in $library" 0 '%ymm' "$scratch/code"
+    if ! grep -q ', without SHA instructions$' "$LIB/$library.made"; then
+        finds "SHA instructions of $library" some ':\s+sha(1|256)' "$scratch/code"
+    fi
 done
+if [ -e "$LIB/without/libverity.a" ]; then
+    code_of "$LIB/without/libverity.a" xmm
+    finds 'SHA instructions of the library without them' 0 ':\s+sha(1|256)' "$scratch/code"
+else
+    echo "left out: the library without SHA instructions: $LIB/without is not built"
+fi
 for library in libverity.a libverity.so.2; do
     if [ -e "$LIB/glibc-hwcaps/x86-64-v3/$library" ]; then
         code_of "$LIB/glibc-hwcaps/x86-64-v3/$library" ymm
@@ -88,6 +97,10 @@ if [ "$(uname -m)" = x86_64 ] && keeps_registers "$scratch/abi" gcc "$LIB/libver
         same 'answers in valgrind' "$(head -n -1 "$scratch/zeros" | sha256sum)" "$(sha256sum <"$scratch/.out")"
     else
         echo 'left out: bytes without a value, in valgrind: valgrind is not installed (Debian: valgrind)'
+    fi
+    if [ -e "$LIB/without/libverity.a" ] && keeps_registers "$scratch/abi" gcc "$LIB/without/libverity.a"; then
+        adds 'registers that a call without SHA instructions keeps' "$scratch/abi" 90
+        same_bytes 'answers without SHA instructions' "$scratch/zeros" "$scratch/.ran"
     fi
     for_v3=$LIB/glibc-hwcaps/x86-64-v3/libverity.a
     if [ -e "$for_v3" ] && [ "$(./processor.sh)" = x86-64-v3 ] && keeps_registers "$scratch/abi" gcc "$for_v3"; then

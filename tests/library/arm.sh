@@ -79,6 +79,10 @@ for library in libverity.a libverity-strict-align.a libverity.so.2; do
         "$scratch/code" '>:$'
     finds "settings and variables of the system in $library" 0 '\b(mrs|msr)\b' "$scratch/code"
     has_no_marks "$ARM_LIB/$library" aarch64-linux-gnu-
+    asks=getauxval
+    if grep -q ', without SHA instructions$' "$ARM_LIB/$library.made"; then asks=; fi
+    same "what $library asks for" "$asks" "$(aarch64-linux-gnu-nm -u "$ARM_LIB/$library" | awk '$1 == "w" { print $2 }' |
+        sed 's/@.*//')"
 done
 for library in libverity.a libverity-strict-align.a; do
     takes_null "$ARM_LIB/$library" 'csel.*, eq' aarch64-linux-gnu-
@@ -91,7 +95,7 @@ done
 # programs stand in the scratch folder, in one of the library's name.
 tries_library() {
     local library=$ARM_LIB/$1 part=$2 built=$scratch/$1
-    local static=(aarch64-linux-gnu-gcc -static -O2 "${platform[@]}" tests/library/chains.c "${feeding_sources[@]}")
+    local static=(aarch64-linux-gnu-gcc -static -O2 -Wl,-u,getauxval "${platform[@]}" tests/library/chains.c "${feeding_sources[@]}")
     mkdir "$built"
     if compiles "$built/refused" "${static[@]}" tests/library/refused.c "$library"; then
         adds refused qemu-aarch64 "$built/refused"

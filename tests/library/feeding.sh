@@ -21,6 +21,8 @@ static=("${feeding_sources[@]}" "$LIB/libverity.a")
 takes_shared
 shared=("${feeding_sources[@]}" "${shared[@]}")
 draws_data
+# Windows of zeros are hashed by a way of their own.
+put_zeros "$scratch/all"
 if compiles "$scratch/refused" gcc -O2 tests/library/feeding_refused.c "${static[@]}"; then
     tries_refused 'what is refused' "$scratch/refused"
 fi

@@ -58,6 +58,7 @@ ends_there() {
 }
 
 cpu=$(head -n 1 "$LIB/libverity.a.made")
+cpu=${cpu%, without SHA instructions}
 if [ "$cpu" = x86-64 ]; then
     runs_on first static "$LIB/libverity.a"
 else
@@ -87,6 +88,7 @@ same 'make library CPU=x86-64-v3' './library.sh x86_64 x86-64-v3' "$(make -sn li
 runs 'another processor' 1 '' 'library.sh: CPU is x86-64, x86-64-v2 or x86-64-v3' ./library.sh x86_64 x86-64-v4
 runs 'a processor for aarch64' 1 '' 'library.sh: CPU is for x86_64 alone' ./library.sh aarch64 x86-64-v3
 runs 'another target' 1 '' 'library.sh: TARGET is x86_64 or aarch64' ./library.sh riscv64
+runs 'a SHA that is neither yes nor no' 1 '' 'library.sh: SHA is yes or no' env SHA=1 ./library.sh x86_64
 runs 'a third word' 1 '' 'library.sh: only TARGET and CPU are taken' ./library.sh x86_64 x86-64 x86-64-v3
 # Programs are for the processor that builds them, unless make is told so.
 same 'make programs' "$(./processor.sh) $(./processor.sh)" "$(make -sn programs | sed 's/.* //' | paste -sd ' ')"
@@ -120,10 +122,17 @@ $built/glibc-hwcaps/x86-64-v3/libverity.a: built for x86-64-v3, and nothing has 
 $built/glibc-hwcaps/x86-64-v3/libverity.so.2: linking" '' remakes "$tools" x86_64 "$cpu"
     same_bytes 'a shared library that is gone: it is linked' "$for_v3/libverity.so.2" \
         "$built/glibc-hwcaps/x86-64-v3/libverity.so.2"
-    runs 'without a C compiler' 0 "$built/libverity.a: built for $cpu, and nothing has changed
-$built/libverity.so.2: left out, since cc isn't installed or can't link" '' \
-        remakes "$(PATH=$tools path_without cc)" x86_64 "$cpu"
-    is_left 'without a C compiler' "$built" libverity.a libverity.a.made
+fi
+# Without a C compiler there are no SHA instructions either.
+without=$built/without without_cc=$(PATH=$tools path_without cc)
+if ! built=$without remakes "$without_cc" x86_64 >/dev/null 2>&1; then
+    echo "left out: without a C compiler: $LIB/without is not built, or of other sources"
+else
+    cp -r "$built/"{libverity.so.2,glibc-hwcaps} "$without"
+    built=$without runs 'without a C compiler' 0 \
+        "$without/libverity.a: built for x86-64, without SHA instructions, and nothing has changed
+$without/libverity.so.2: left out, since cc isn't installed or can't link" '' remakes "$without_cc" x86_64
+    is_left 'without a C compiler' "$without" libverity.a libverity.a.made
 fi
 if ! remakes "$tools" aarch64 >/dev/null 2>&1; then
     echo "left out: linking for 64-bit ARM: $LIB/aarch64 is not built, or of other sources"

@@ -2,8 +2,8 @@
  * stack.c - measures how much stack those functions of the library take that take most, beside what stack.py says.
  *
  * Each is called on a stack filled with one byte, and takes what it changes below its caller's stack pointer: by each
- * hash function, with and without a salt, and for data that ends at each place of a builder's window. Printed are the
- * names, and the most bytes.
+ * hash function, with and without a salt, for data of zeros and other data, that ends at each place of a builder's
+ * window. Printed are the names, and the most bytes.
  */
 #define _XOPEN_SOURCE 700
 #include <stdint.h>
@@ -21,7 +21,7 @@ static ucontext_t main_context, call_context;
 static uint8_t *at_call;
 static int status;
 
-/* An image and a file of zeros. The one part of the image is all of it, and a join takes a digest of each block. */
+/* An image and a file. The one part of the image is all of it, and a join takes a digest of each block. */
 static struct verity_params image;
 static struct fsverity_params file;
 static struct verity_part part;
@@ -112,7 +112,7 @@ static void measure_file(uint32_t algorithm, uint32_t salt_size, uint64_t size)
     MEASURE(fsverity_join_end, VERITY_OK);
 }
 
-int main(void)
+static void measure_all(void)
 {
     static const uint32_t salt_sizes[] = {0, 1, 32};
     uint32_t algorithm;
@@ -127,6 +127,14 @@ int main(void)
                 measure_file(algorithm, salt_sizes[i], blocks * BLOCK);
                 measure_file(algorithm, salt_sizes[i], blocks * BLOCK - 1);
             }
+}
+
+int main(void)
+{
+    measure_all();
+    memset(data, 7, sizeof data);
+    memset(memory, 7, sizeof memory);
+    measure_all();
     CALLS(PRINT)
     return 0;
 }

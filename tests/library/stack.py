@@ -5,8 +5,8 @@ through its code.
     objdump -dr --no-show-raw-insn libverity.a | stack.py
 
 Prints the names of the functions that verity.h declares, and the bytes. On x86-64 the return addresses count, also that
-of the function itself. What memcpy, memmove and memset take themselves isn't known here. Code is refused in which there
-is what this doesn't know, as a call by a pointer, a recursion or a frame of any size.
+of the function itself. What memcpy, memmove, memset and getauxval take themselves isn't known here. Code is refused in which
+there is what this doesn't know, as a call by a pointer, a recursion or a frame of any size.
 """
 
 import functools
@@ -43,7 +43,7 @@ def larger(instruction):
 
 text = sys.stdin.read()
 return_address = 8 if "%rsp" in text else 0
-frames, ways = {name: 0 for name in ("memcpy", "memmove", "memset")}, {}
+frames, ways = {name: 0 for name in ("memcpy", "memmove", "memset", "getauxval")}, {}
 function = instruction = ""
 for line in text.split("\n"):
     line = " ".join(line.split("//")[0].split())

@@ -8,3 +8,4 @@ mod OneMessage
 mod Padding32
 mod Padding64
 mod Pieces
+mod Runs

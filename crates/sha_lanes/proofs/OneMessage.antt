@@ -85,7 +85,7 @@ block_at : (size k j : ℕ) (group p : List ℕ) → HoldsFrom group p (k * size
     → take size (drop (j * size) group) ≡ take size (drop ((k + j) * size) p)
 block_at size k j group p holds long room inside =
     let place : (k + j) * size ≡ k * size + j * size = omega arith in
-    block_of_group size j group p (k * size) holds long (omega (arith, place)) inside ∙ ap (λ z. take size (drop z p)) (sym place)
+    block_of_group size j group p (k * size) holds (omega (arith, place)) (omega (arith, long)) ∙ ap (λ z. take size (drop z p)) (sym place)
 
 -- and its schedule
 pub schedule_at32 : (first second third : List ℕ) (k j : ℕ) (group : List ℕ) → j < 8

@@ -23,6 +23,6 @@ message_of before parts len after j = before ++ take len (drop (j * len) parts) 
 abbrev pub HoldsFrom : List ℕ → List ℕ → ℕ → Type 0
 HoldsFrom r m at = (i : ℕ) → i < length r → slice_index r i ≡ slice_index m (at + i)
 
--- the 512 bytes of a group, from byte `at` of a message on, lie in the piece of n bytes that begins at byte `from`
-abbrev pub LiesIn : ℕ → ℕ → ℕ → Type 0
-LiesIn n from at = (from ≤ at) × (at + 512 ≤ from + n)
+-- so many bytes, from byte `at` of a message on, lie in the piece of n bytes that begins at byte `from`
+abbrev pub LiesIn : ℕ → ℕ → ℕ → ℕ → Type 0
+LiesIn size n from at = (from ≤ at) × (at + size ≤ from + n)

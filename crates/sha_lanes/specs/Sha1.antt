@@ -1,7 +1,7 @@
 -- For the private functions; not needed to read a public contract.
 -- SHA-1 in eight lanes, by the definitions of `sha1`.
-use Rattle.std.specs.Prelude.{◌≡◌, ℕ, ◌<◌, ◌+◌, List, slice_index}
-use Rattle.sha1.specs.Sha1.{rounds, round_constant, add32}
+use Rattle.std.specs.Prelude.{◌≡◌, ℕ, ◌<◌, ◌+◌, ◌/◌, List, length, slice_index}
+use Rattle.sha1.specs.Sha1.{rounds, round_constant, add32, hash_after, padded_message}
 use Rattle.sha_lanes.specs.{Lanes.lane, declared.sha_1.functions.Kind.{Kind, TheVariants.{First, Second, Third, Fourth}}}
 
 -- the first of the twenty rounds of a kind
@@ -19,3 +19,7 @@ RoundsFrom w t n u v = (j : ℕ) → j < 8 → (s : List ℕ)
 -- lane j of kw has the words w, to each of which the constant of its round was added
 abbrev pub AddsConstants : List (List ℕ) → ℕ → List ℕ → Type 0
 AddsConstants kw j w = (t : ℕ) → t < 80 → slice_index (lane kw j) t ≡ add32 (slice_index w t) (round_constant t)
+
+-- the hash value of a message
+abbrev pub final_hash : List ℕ → List ℕ
+final_hash m = hash_after (padded_message m) (length (padded_message m) / 64)

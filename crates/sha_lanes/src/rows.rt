@@ -1,5 +1,5 @@
-//! Rows of bytes, filled with pieces of a message; where the parts begin; groups of blocks inside a piece; and bytes
-//! that are all zeros.
+//! Rows of bytes, filled with pieces of a message; where the parts begin; what is left of a piece; and bytes that are all
+//! zeros.
 ghost use Rattle.std.specs.Prelude.{◌≡◌, ℕ, ◌+◌, ◌-◌, ◌*◌, ◌<◌, ◌≤◌, ◌^◌, ◌++◌, List, length, slice_index, take, drop};
 ghost use Rattle.std.specs.Prelude.{◌↔◌, ◌⊎◌, IfSome, IsSome, IsTrue, replicate};
 ghost use Rattle.sha_lanes.specs.Lanes.{HoldsFrom, LiesIn};
@@ -49,52 +49,53 @@ pub(crate) fn places_of(total: usize, len: usize) -> [usize; 8]
     [0, b, c, d, e, f, g, h]
 }
 
-/// The group at byte `at` of a message, if it lies in the piece that begins at byte `from`.
+/// The rest of the piece that begins at byte `from` of a message, from byte `at` of the message on, if `size` bytes are
+/// left of it.
 #[inline(always)]
-fn group_of(piece: &[u8], from: u128, at: u128) -> Option<&[u8]>
+fn rest_of(piece: &[u8], from: u128, at: u128, size: usize) -> Option<&[u8]>
     requires piece_near { from < 2 ^ 127 }
     requires near { at < 2 ^ 127 }
-    ensures there { LiesIn (length piece.now) from at → IsSome result }
-    ensures bytes { IfSome result (λ bytes. (from ≤ at) × (at + 512 ≤ from + length piece.now)
-        × (bytes.now ≡ take 512 (drop (at - from) piece.now))) }
+    ensures there { LiesIn size (length piece.now) from at → IsSome result }
+    ensures bytes { IfSome result (λ bytes. (from ≤ at) × (at + size ≤ from + length piece.now)
+        × (bytes.now ≡ drop (at - from) piece.now)) }
 {
-    if from <= at && at + GROUP as u128 <= from + piece.len() as u128 {
-        let first = (at - from) as usize;
-        return Some(&piece[first..first + GROUP]);
+    if from <= at && at + size as u128 <= from + piece.len() as u128 {
+        return Some(&piece[(at - from) as usize..]);
     }
     None
 }
 
-/// The group at byte `at` of a message in three pieces, if it lies in one of them. A block of a tree is the second piece
-/// or the third, so they are tried first.
+/// The rest of one of the three pieces of a message from byte `at` of the message on, if `size` bytes are left of it. A
+/// block of a tree is the second piece or the third, so they are tried first.
 #[inline(always)]
-pub(crate) fn group_in<'a>(
+pub(crate) fn rest_in<'a>(
     first: &'a [u8],
     second: &'a [u8],
     third: &'a [u8],
     at: u128,
+    size: usize,
 ) -> Option<&'a [u8]>
     requires { at < 2 ^ 127 }
-    ensures there { LiesIn (length first.now) 0 at ⊎ LiesIn (length second.now) (length first.now) at
-        ⊎ LiesIn (length third.now) (length first.now + length second.now) at → IsSome result }
-    ensures bytes { IfSome result (λ bytes. (length bytes.now ≡ 512)
-        × (at + 512 ≤ length (first.now ++ second.now ++ third.now))
+    ensures there { LiesIn size (length first.now) 0 at ⊎ LiesIn size (length second.now) (length first.now) at
+        ⊎ LiesIn size (length third.now) (length first.now + length second.now) at → IsSome result }
+    ensures bytes { IfSome result (λ bytes. (size ≤ length bytes.now)
+        × (at + length bytes.now ≤ length (first.now ++ second.now ++ third.now))
         × HoldsFrom bytes.now (first.now ++ second.now ++ third.now) at) }
 {
     let start = first.len() as u128;
     let end = start + second.len() as u128;
-    match group_of(second, start, at) {
+    match rest_of(second, start, at, size) {
         Some(bytes) => Some(bytes),
-        None => match group_of(third, end, at) {
+        None => match rest_of(third, end, at, size) {
             Some(bytes) => Some(bytes),
-            None => group_of(first, 0, at),
+            None => rest_of(first, 0, at, size),
         },
     }
 }
 
 /// Whether all bytes are zeros. No byte ends the loop early, so that it can go over many at once.
-#[inline(always)]
-pub(crate) fn are_zeros(bytes: &[u8]) -> bool
+#[inline]
+pub fn are_zeros(bytes: &[u8]) -> bool
     ensures { IsTrue result ↔ (bytes.now ≡ replicate (length bytes.now) 0) }
 {
     let mut largest = 0;

@@ -1,4 +1,5 @@
 //! SHA-384 and SHA-512: words of 64 bits, four to a vector.
+mod by_instructions;
 pub(crate) mod digests;
 mod functions;
 mod hash_values;

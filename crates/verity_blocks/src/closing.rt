@@ -13,6 +13,7 @@ ghost use Rattle.verity_blocks.specs.TreeOnDevice.{tree_block};
 ghost use Rattle.verity_blocks.specs.Windows.{window_length};
 
 use crate::hash_block::HashBlock;
+use crate::known_zeros::KnownZeros;
 use crate::open_blocks::{add_digest, block_with, carry_up, digest_with};
 use crate::plans::planned;
 use crate::window::{add_window, window_length, window_place};
@@ -43,12 +44,14 @@ pub fn most_closed(plan: &Plan, level: usize, fed: u64) -> usize
 /// Closes the next hash block above the bytes that were fed, if one closes before more come: whether one has. For that
 /// the window's data blocks are added, or the hash block that closed last is taken, and the digest of the last of them,
 /// or of that block, goes one level up. With the last byte the levels up to `levels` close, also those above the plan's own.
-pub fn close_next(
-    plan: &Plan,
+/// `zeros` keeps the digest of a data block of zeros for later calls; what it knows changes no answer.
+pub fn close_next<'a>(
+    plan: &'a Plan,
     levels: usize,
     progress: &mut Progress,
     opened: &mut [u8],
     window: &mut [u8],
+    zeros: &mut KnownZeros<'a>,
 ) -> bool
     requires step { CanStep plan.now levels progress.old.fed progress.old.closed opened.old window.old }
     requires some { progress.old.fed ≡ plan.now.wanted → progress.old.closed < levels }
@@ -73,7 +76,7 @@ pub fn close_next(
     }
     let i = (count - 1) / plan.data_block() as u64;
     let closes = if level == 0 {
-        let digest = add_window(plan, opened, window, count);
+        let digest = add_window(plan, opened, window, count, zeros);
         add_digest(plan, opened, i, 0, &digest)
     } else {
         carry_up(plan, opened, i, level)
@@ -129,7 +132,7 @@ fn digest_below(plan: &Plan, opened: &mut [u8], window: &mut [u8], to: usize) ->
     let wanted = plan.wanted();
     let first = window_place(plan, wanted).first;
     let last = plan.blocks() - 1;
-    let mut digest = add_window(plan, opened, window, wanted);
+    let mut digest = add_window(plan, opened, window, wanted, &mut KnownZeros::none());
     for level in 0..to {
         digest = digest_with(plan, opened, first, last, level, &digest);
     }

@@ -4,6 +4,7 @@
 
 mod closing;
 mod hash_block;
+mod known_zeros;
 pub mod laws;
 mod open_blocks;
 mod plans;
@@ -15,6 +16,7 @@ pub use closing::{
     root_of_fed,
 };
 pub use hash_block::HashBlock;
+pub use known_zeros::KnownZeros;
 pub use open_blocks::{add_digest, carry_up};
 pub use plans::planned;
 pub use window::window_length;

@@ -9,6 +9,7 @@ ghost use Rattle.verity_blocks.specs.Steps.OpenBlocks.{level_digest};
 ghost use Rattle.verity_blocks.specs.Steps.Batches.{HoldsDataBlocks, IsBatch};
 ghost use Rattle.verity_blocks.specs.TreeOnDevice.{tree_block};
 
+use crate::known_zeros::KnownZeros;
 use crate::plans::planned;
 use crate::side_by_side::digest_rows;
 use verity_hash::Digest;
@@ -157,7 +158,14 @@ pub(crate) fn block_with(
 
 /// Adds the digests of a batch of data blocks from `i` on, which stand one after another in `rows`, to the open block of
 /// level 0, but that of the last one, which is the result. No hash block closes with those that are added.
-pub(crate) fn add_batch(plan: &Plan, opened: &mut [u8], i: u64, rows: &[u8], count: usize) -> Digest
+pub(crate) fn add_batch<'a>(
+    plan: &'a Plan,
+    opened: &mut [u8],
+    i: u64,
+    rows: &[u8],
+    count: usize,
+    zeros: &mut KnownZeros<'a>,
+) -> Digest
     requires planned { IsPlan plan.now }
     requires room { level_count_of plan.now * plan.now.settings.hash_block ≤ length opened.old }
     requires batch { IsBatch plan.now i count }
@@ -170,7 +178,7 @@ pub(crate) fn add_batch(plan: &Plan, opened: &mut [u8], i: u64, rows: &[u8], cou
         → HasOpenBlocks plan.now.settings blocks 0 levels (i + count - 1) opened.new
         × (result ≡ level_digest plan.now.settings blocks (i + count - 1) 0) }
 {
-    let digests = digest_rows(plan, rows, count);
+    let digests = digest_rows(plan, rows, count, zeros);
     for row in 0..count - 1 {
         let digest = digests[row];
         add_digest(plan, opened, i + row as u64, 0, &digest);

@@ -6,6 +6,7 @@ ghost use Rattle.verity_plan.specs.Settings.{IsValid, digest_len};
 ghost use Rattle.verity_blocks.specs.Steps.Feeding.{HasCome, HasFed, IsWindowPlace, windows_before};
 ghost use Rattle.verity_blocks.specs.Windows.{window_blocks, window_length};
 
+use crate::known_zeros::KnownZeros;
 use crate::open_blocks::add_batch;
 use crate::side_by_side::ROWS;
 use verity_hash::Digest;
@@ -66,7 +67,13 @@ pub(crate) fn window_place(plan: &Plan, count: u64) -> WindowPlace
 
 /// Adds the digests of the window's data blocks, when so many bytes were fed, but that of the last one, which is the
 /// result. What is left of that block is filled with zeros; the bytes stay, for more that come.
-pub(crate) fn add_window(plan: &Plan, opened: &mut [u8], window: &mut [u8], count: u64) -> Digest
+pub(crate) fn add_window<'a>(
+    plan: &'a Plan,
+    opened: &mut [u8],
+    window: &mut [u8],
+    count: u64,
+    zeros: &mut KnownZeros<'a>,
+) -> Digest
     requires planned { IsPlan plan.now }
     requires opened { level_count_of plan.now * plan.now.settings.hash_block ≤ length opened.old }
     requires window { length window.old ≡ window_length plan.now.settings }
@@ -83,5 +90,5 @@ pub(crate) fn add_window(plan: &Plan, opened: &mut [u8], window: &mut [u8], coun
     let blocks = place.rows + 1;
     let end = blocks * plan.data_block();
     window[place.bytes..end].fill(0);
-    add_batch(plan, opened, place.first, &window[..end], blocks)
+    add_batch(plan, opened, place.first, &window[..end], blocks, zeros)
 }

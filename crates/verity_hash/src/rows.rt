@@ -108,10 +108,10 @@ fn after_padded_salt(
 }
 
 /// The salted hashes of `count` blocks of `size` bytes each, one to eight, which stand one after another in `rows`:
-/// each is what `salted` gives for its block. The digests after theirs count for nothing. They are computed side by
-/// side, in much less time: any number of them by SHA-1, SHA-224 and SHA-256 takes as long as eight, and by SHA-384 and
-/// SHA-512 one to four take half as long as five to eight. Only after a salt that is padded and longer than an input
-/// block they go one by one.
+/// each is what `salted` gives for its block. The digests after theirs count for nothing. Without SHA instructions they
+/// are computed side by side, in much less time: any number of them by SHA-1, SHA-224 and SHA-256 takes as long as eight,
+/// and by SHA-384 and SHA-512 one to four take half as long as five to eight. With SHA instructions they go two by two,
+/// by SHA-384 and SHA-512 one by one. After a salt that is padded and longer than an input block they go one by one.
 pub fn salted_rows(
     algorithm: Algorithm,
     rule: SaltRule,

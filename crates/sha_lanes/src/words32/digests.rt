@@ -3,11 +3,13 @@ ghost use Rattle.std.specs.Prelude.{◌≡◌, ℕ, ◌+◌, ◌*◌, ◌<◌, �
 ghost use Rattle.sha2.specs.Sha256 as S256;
 ghost use Rattle.sha_lanes.specs.Lanes.{lane, message_of, row};
 
+use crate::words32::by_instructions::hash_each;
 use crate::words32::hash_values::{
     INITIAL_HASH_224, INITIAL_HASH_256, hash_bytes, leftmost_224, words_of,
 };
 use crate::words32::padding::{block_count, load_block};
 use crate::words32::rounds::compress;
+use sha_instructions::instructions::has_instructions;
 use std::simd::prelude::*;
 
 /// Words that are the same in each lane.
@@ -41,48 +43,80 @@ fn hash(state: &mut [u32x8; 8], before: &[u8], parts: &[u8], len: usize, after: 
     }
 }
 
+/// The hash values of `count` messages, one to eight, from an initial hash value. Not inlined, so that no caller's frame
+/// has its vectors beside those of another function.
+#[inline(never)]
+fn hash_values(
+    initial: &[u32; 8],
+    before: &[u8],
+    parts: &[u8],
+    len: usize,
+    count: usize,
+    after: &[u8],
+) -> [[u32; 8]; 8]
+    requires whole { length parts.now ≡ count * len }
+    requires some { 0 < count }
+    requires most { count ≤ 8 }
+    ensures { (j : ℕ) → j < count
+        → row result j ≡ S256.final_hash initial.now (message_of before.now parts.now len after.now j) }
+{
+    if has_instructions() {
+        return hash_each(initial, before, parts, len, count, after);
+    }
+    let mut state = in_each_lane(initial);
+    hash(&mut state, before, parts, len, after);
+    [
+        words_of(&state, 0),
+        words_of(&state, 1),
+        words_of(&state, 2),
+        words_of(&state, 3),
+        words_of(&state, 4),
+        words_of(&state, 5),
+        words_of(&state, 6),
+        words_of(&state, 7),
+    ]
+}
+
 /// The SHA-256 digests of `count` messages of one length, one to eight. Message `j` is `before`, then part `j` of
-/// `parts`, which have `len` bytes each, then `after`. The digests after those of the messages are meaningless. Any
-/// number of messages takes the same time.
+/// `parts`, which have `len` bytes each, then `after`. The digests after those of the messages are meaningless. Without SHA
+/// instructions any number of messages takes the same time.
 pub fn sha256(before: &[u8], parts: &[u8], len: usize, count: usize, after: &[u8]) -> [[u8; 32]; 8]
     requires whole { length parts.now ≡ count * len }
     requires some { 0 < count }
     requires most { count ≤ 8 }
     ensures { (j : ℕ) → j < count → row result j ≡ S256.sha256 (message_of before.now parts.now len after.now j) }
 {
-    let mut state = in_each_lane(&INITIAL_HASH_256);
-    hash(&mut state, before, parts, len, after);
+    let [a, b, c, d, e, f, g, h] = hash_values(&INITIAL_HASH_256, before, parts, len, count, after);
     [
-        hash_bytes(&words_of(&state, 0)),
-        hash_bytes(&words_of(&state, 1)),
-        hash_bytes(&words_of(&state, 2)),
-        hash_bytes(&words_of(&state, 3)),
-        hash_bytes(&words_of(&state, 4)),
-        hash_bytes(&words_of(&state, 5)),
-        hash_bytes(&words_of(&state, 6)),
-        hash_bytes(&words_of(&state, 7)),
+        hash_bytes(&a),
+        hash_bytes(&b),
+        hash_bytes(&c),
+        hash_bytes(&d),
+        hash_bytes(&e),
+        hash_bytes(&f),
+        hash_bytes(&g),
+        hash_bytes(&h),
     ]
 }
 
 /// The SHA-224 digests of `count` messages of one length, one to eight. Message `j` is `before`, then part `j` of
-/// `parts`, which have `len` bytes each, then `after`. The digests after those of the messages are meaningless. Any
-/// number of messages takes the same time.
+/// `parts`, which have `len` bytes each, then `after`. The digests after those of the messages are meaningless. Without SHA
+/// instructions any number of messages takes the same time.
 pub fn sha224(before: &[u8], parts: &[u8], len: usize, count: usize, after: &[u8]) -> [[u8; 28]; 8]
     requires whole { length parts.now ≡ count * len }
     requires some { 0 < count }
     requires most { count ≤ 8 }
     ensures { (j : ℕ) → j < count → row result j ≡ S256.sha224 (message_of before.now parts.now len after.now j) }
 {
-    let mut state = in_each_lane(&INITIAL_HASH_224);
-    hash(&mut state, before, parts, len, after);
+    let [a, b, c, d, e, f, g, h] = hash_values(&INITIAL_HASH_224, before, parts, len, count, after);
     [
-        leftmost_224(&hash_bytes(&words_of(&state, 0))),
-        leftmost_224(&hash_bytes(&words_of(&state, 1))),
-        leftmost_224(&hash_bytes(&words_of(&state, 2))),
-        leftmost_224(&hash_bytes(&words_of(&state, 3))),
-        leftmost_224(&hash_bytes(&words_of(&state, 4))),
-        leftmost_224(&hash_bytes(&words_of(&state, 5))),
-        leftmost_224(&hash_bytes(&words_of(&state, 6))),
-        leftmost_224(&hash_bytes(&words_of(&state, 7))),
+        leftmost_224(&hash_bytes(&a)),
+        leftmost_224(&hash_bytes(&b)),
+        leftmost_224(&hash_bytes(&c)),
+        leftmost_224(&hash_bytes(&d)),
+        leftmost_224(&hash_bytes(&e)),
+        leftmost_224(&hash_bytes(&f)),
+        leftmost_224(&hash_bytes(&g)),
+        leftmost_224(&hash_bytes(&h)),
     ]
 }

@@ -3,11 +3,13 @@ ghost use Rattle.std.specs.Prelude.{◌≡◌, ℕ, ◌+◌, ◌*◌, ◌<◌, �
 ghost use Rattle.sha2.specs.Sha512 as S512;
 ghost use Rattle.sha_lanes.specs.Lanes.{lane, message_of, row};
 
+use crate::words64::by_instructions::hash_each;
 use crate::words64::hash_values::{
     INITIAL_HASH_384, INITIAL_HASH_512, hash_bytes, leftmost_384, words_of,
 };
 use crate::words64::padding::{block_count, load_block};
 use crate::words64::rounds::compress;
+use sha_instructions::instructions::has_instructions_of_sha_512;
 use std::simd::prelude::*;
 
 /// Words that are the same in each lane.
@@ -41,29 +43,31 @@ fn hash(state: &mut [u64x4; 8], before: &[u8], parts: &[u8], len: usize, after: 
     }
 }
 
-/// The hash values of the first four messages, or of as many as there are, in bytes, from an initial hash value.
+/// The hash values of the first four messages, or of as many as there are, from an initial hash value. Not inlined, so
+/// that no caller's frame has its vectors beside those of another function.
+#[inline(never)]
 fn four_hash_values(
     initial: &[u64; 8],
     before: &[u8],
     parts: &[u8],
     len: usize,
     after: &[u8],
-) -> [[u8; 64]; 4]
+) -> [[u64; 8]; 4]
     requires { len ≤ length parts.now }
     ensures { (j : ℕ) → j < 4 → j * len + len ≤ length parts.now
-        → row result j ≡ S512.digest_bytes (S512.final_hash initial.now (message_of before.now parts.now len after.now j)) 8 }
+        → row result j ≡ S512.final_hash initial.now (message_of before.now parts.now len after.now j) }
 {
     let mut state = in_each_lane(initial);
     hash(&mut state, before, parts, len, after);
     [
-        hash_bytes(&words_of(&state, 0)),
-        hash_bytes(&words_of(&state, 1)),
-        hash_bytes(&words_of(&state, 2)),
-        hash_bytes(&words_of(&state, 3)),
+        words_of(&state, 0),
+        words_of(&state, 1),
+        words_of(&state, 2),
+        words_of(&state, 3),
     ]
 }
 
-/// The hash values of `count` messages, in bytes, from an initial hash value. For four or fewer there is no second
+/// The hash values of `count` messages, one to eight, from an initial hash value. For four or fewer there is no second
 /// pass.
 fn hash_values(
     initial: &[u64; 8],
@@ -72,13 +76,16 @@ fn hash_values(
     len: usize,
     count: usize,
     after: &[u8],
-) -> [[u8; 64]; 8]
+) -> [[u64; 8]; 8]
     requires whole { length parts.now ≡ count * len }
     requires some { 0 < count }
     requires most { count ≤ 8 }
     ensures { (j : ℕ) → j < count
-        → row result j ≡ S512.digest_bytes (S512.final_hash initial.now (message_of before.now parts.now len after.now j)) 8 }
+        → row result j ≡ S512.final_hash initial.now (message_of before.now parts.now len after.now j) }
 {
+    if has_instructions_of_sha_512() {
+        return hash_each(initial, before, parts, len, count, after);
+    }
     let [a, b, c, d] = four_hash_values(initial, before, parts, len, after);
     if count <= 4 {
         return [a, b, c, d, a, b, c, d];
@@ -88,20 +95,30 @@ fn hash_values(
 }
 
 /// The SHA-512 digests of `count` messages of one length, one to eight. Message `j` is `before`, then part `j` of
-/// `parts`, which have `len` bytes each, then `after`. The digests after those of the messages are meaningless. Five to
-/// eight messages take twice as long as one to four.
+/// `parts`, which have `len` bytes each, then `after`. The digests after those of the messages are meaningless. Without SHA
+/// instructions five to eight messages take twice as long as one to four.
 pub fn sha512(before: &[u8], parts: &[u8], len: usize, count: usize, after: &[u8]) -> [[u8; 64]; 8]
     requires whole { length parts.now ≡ count * len }
     requires some { 0 < count }
     requires most { count ≤ 8 }
     ensures { (j : ℕ) → j < count → row result j ≡ S512.sha512 (message_of before.now parts.now len after.now j) }
 {
-    hash_values(&INITIAL_HASH_512, before, parts, len, count, after)
+    let [a, b, c, d, e, f, g, h] = hash_values(&INITIAL_HASH_512, before, parts, len, count, after);
+    [
+        hash_bytes(&a),
+        hash_bytes(&b),
+        hash_bytes(&c),
+        hash_bytes(&d),
+        hash_bytes(&e),
+        hash_bytes(&f),
+        hash_bytes(&g),
+        hash_bytes(&h),
+    ]
 }
 
 /// The SHA-384 digests of `count` messages of one length, one to eight. Message `j` is `before`, then part `j` of
-/// `parts`, which have `len` bytes each, then `after`. The digests after those of the messages are meaningless. Five to
-/// eight messages take twice as long as one to four.
+/// `parts`, which have `len` bytes each, then `after`. The digests after those of the messages are meaningless. Without SHA
+/// instructions five to eight messages take twice as long as one to four.
 pub fn sha384(before: &[u8], parts: &[u8], len: usize, count: usize, after: &[u8]) -> [[u8; 48]; 8]
     requires whole { length parts.now ≡ count * len }
     requires some { 0 < count }
@@ -110,13 +127,13 @@ pub fn sha384(before: &[u8], parts: &[u8], len: usize, count: usize, after: &[u8
 {
     let [a, b, c, d, e, f, g, h] = hash_values(&INITIAL_HASH_384, before, parts, len, count, after);
     [
-        leftmost_384(&a),
-        leftmost_384(&b),
-        leftmost_384(&c),
-        leftmost_384(&d),
-        leftmost_384(&e),
-        leftmost_384(&f),
-        leftmost_384(&g),
-        leftmost_384(&h),
+        leftmost_384(&hash_bytes(&a)),
+        leftmost_384(&hash_bytes(&b)),
+        leftmost_384(&hash_bytes(&c)),
+        leftmost_384(&hash_bytes(&d)),
+        leftmost_384(&hash_bytes(&e)),
+        leftmost_384(&hash_bytes(&f)),
+        leftmost_384(&hash_bytes(&g)),
+        leftmost_384(&hash_bytes(&h)),
     ]
 }

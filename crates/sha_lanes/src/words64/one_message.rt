@@ -4,10 +4,12 @@ ghost use Rattle.std.specs.Prelude.{◌≡◌, ℕ, ◌+◌, ◌<◌, ◌≤◌,
 ghost use Rattle.sha2.specs.Sha512 as S512;
 ghost use Rattle.sha_lanes.specs.Words64.{block_count};
 
-use crate::rows::{GROUP, group_in};
+use crate::rows::{GROUP, rest_in};
+use crate::words64::by_instructions::hash_one;
 use crate::words64::hash_values::{INITIAL_HASH_384, INITIAL_HASH_512, hash_bytes, leftmost_384};
 use crate::words64::padding::{block_count, padded_row};
 use crate::words64::plain_rounds::{compress, set_words};
+use sha_instructions::instructions::has_instructions_of_sha_512;
 use std::simd::prelude::*;
 
 /// Takes `count` blocks of a padded message, from block `k` on, into the hash value. What stood in `w` and `kw` doesn't
@@ -29,8 +31,8 @@ fn take_blocks(
         → state.new ≡ S512.hash_after h (S512.padded_message (first.now ++ second.now ++ third.now)) (k + count) }
 {
     let at = k as u128 * 128;
-    match group_in(first, second, third, at) {
-        Some(blocks) => set_words(kw, w, blocks),
+    match rest_in(first, second, third, at, GROUP) {
+        Some(rest) => set_words(kw, w, &rest[..GROUP]),
         None => set_words(kw, w, &padded_row::<GROUP>(first, second, third, at)),
     }
     for j in 0..count {
@@ -64,20 +66,30 @@ fn hash(state: &mut [u64; 8], first: &[u8], second: &[u8], third: &[u8])
     }
 }
 
+/// The hash value of a message, from an initial hash value. Not inlined, so that no caller's frame has its vectors
+/// beside those of another function.
+#[inline(never)]
+fn hash_value(initial: &[u64; 8], first: &[u8], second: &[u8], third: &[u8]) -> [u64; 8]
+    ensures { result ≡ S512.final_hash initial.now (first.now ++ second.now ++ third.now) }
+{
+    if has_instructions_of_sha_512() {
+        return hash_one(initial, first, second, third);
+    }
+    let mut state = *initial;
+    hash(&mut state, first, second, third);
+    state
+}
+
 /// The SHA-512 digest (6.4) of one message, which is in three pieces.
 pub fn sha512_alone(first: &[u8], second: &[u8], third: &[u8]) -> [u8; 64]
     ensures { result ≡ S512.sha512 (first.now ++ second.now ++ third.now) }
 {
-    let mut state = INITIAL_HASH_512;
-    hash(&mut state, first, second, third);
-    hash_bytes(&state)
+    hash_bytes(&hash_value(&INITIAL_HASH_512, first, second, third))
 }
 
 /// The SHA-384 digest (6.5) of one message, which is in three pieces.
 pub fn sha384_alone(first: &[u8], second: &[u8], third: &[u8]) -> [u8; 48]
     ensures { result ≡ S512.sha384 (first.now ++ second.now ++ third.now) }
 {
-    let mut state = INITIAL_HASH_384;
-    hash(&mut state, first, second, third);
-    leftmost_384(&hash_bytes(&state))
+    leftmost_384(&hash_bytes(&hash_value(&INITIAL_HASH_384, first, second, third)))
 }

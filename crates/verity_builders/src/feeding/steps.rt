@@ -4,16 +4,17 @@ ghost use Rattle.verity_plan.specs.PlanCounts.{level_count_of};
 ghost use Rattle.verity_blocks.specs.Steps.Feeding.{CanStep, FeedsOn, HasFed, Stands};
 
 use crate::feeding::pieces::take_bytes;
-use verity_blocks::{Progress, close_next};
+use verity_blocks::{KnownZeros, Progress, close_next};
 use verity_plan::Plan;
 
 /// Goes on until a hash block closes or bytes of the piece are taken: how many, none if a hash block has closed.
-fn advance(
-    plan: &Plan,
+fn advance<'a>(
+    plan: &'a Plan,
     levels: usize,
     progress: &mut Progress,
     opened: &mut [u8],
     window: &mut [u8],
+    zeros: &mut KnownZeros<'a>,
     piece: &[u8],
 ) -> usize
     requires step { CanStep plan.now levels progress.old.fed progress.old.closed opened.old window.old }
@@ -30,7 +31,7 @@ fn advance(
         → FeedsOn plan.now room fed progress.old.closed (take result piece.now) (result == 0) progress.new.closed
         opened.new window.new }
 {
-    if close_next(plan, levels, progress, opened, window) {
+    if close_next(plan, levels, progress, opened, window, zeros) {
         return 0;
     }
     let taken = take_bytes(plan, window, progress.fed, piece);
@@ -65,9 +66,11 @@ pub(crate) fn feed_before_end(
         → FeedsOn plan.now room fed progress.old.closed (take result.0 piece.now) result.1 progress.new.closed
         opened.new window.new }
 {
+    let mut zeros = KnownZeros::none();
     let mut taken = 0;
     while taken < piece.len() {
-        let count = advance(plan, levels, progress, opened, window, &piece[taken..]);
+        let rest = &piece[taken..];
+        let count = advance(plan, levels, progress, opened, window, &mut zeros, rest);
         if count == 0 {
             return (taken, true);
         }
@@ -107,7 +110,8 @@ pub(crate) fn feed_until_closed(
     if closes || progress.fed < plan.wanted() || progress.closed >= levels {
         return (taken, closes);
     }
-    let last_closes = close_next(plan, levels, progress, opened, window);
+    let mut zeros = KnownZeros::none();
+    let last_closes = close_next(plan, levels, progress, opened, window, &mut zeros);
     (taken, last_closes)
 }
 
@@ -127,8 +131,17 @@ pub(crate) fn feed_all(plan: &Plan, count: u64, opened: &mut [u8], window: &mut 
         closed: 0,
     };
     let levels = plan.levels();
+    let mut zeros = KnownZeros::none();
     let mut taken = 0;
     'pieces: while taken < piece.len() {
-        taken += advance(plan, levels, &mut progress, opened, window, &piece[taken..]);
+        taken += advance(
+            plan,
+            levels,
+            &mut progress,
+            opened,
+            window,
+            &mut zeros,
+            &piece[taken..],
+        );
     }
 }

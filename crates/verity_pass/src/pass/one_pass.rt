@@ -11,7 +11,9 @@ ghost use Rattle.verity_blocks.specs.Windows.{window_length};
 use crate::pass::on_closed::OnClosed;
 use crate::pass::pass_fault::{PassFault, Stop};
 use crate::pass::reading::read_window;
-use verity_blocks::{Progress, close_next, digest_at_the_top, handed_out, planned, window_length};
+use verity_blocks::{
+    KnownZeros, Progress, close_next, digest_at_the_top, handed_out, planned, window_length,
+};
 use verity_hash::Digest;
 use verity_io::{Device, Source};
 use verity_plan::Plan;
@@ -47,7 +49,8 @@ pub(crate) fn pass<C: OnClosed, S: Source, D: Device>(
     let (opened, block) = work.split_at_mut(plan.levels() * plan.hash_block());
     if plan.levels() == 0 {
         // A source sees nothing of what the store was used for before.
-        block.fill(0);
+        let wanted = plan.wanted().min(block.len() as u64) as usize;
+        block[..wanted].fill(0);
         return match read_window(plan, block, 0, source) {
             Ok(count) => {
                 block[count..].fill(0);
@@ -114,8 +117,9 @@ fn pass_over_windows<C: OnClosed, S: Source, D: Device>(
     opened.fill(0);
     let levels = plan.levels();
     let mut progress = Progress { fed: 0, closed: 0 };
+    let mut zeros = KnownZeros::none();
     'steps: while progress.fed < plan.wanted() || progress.closed < levels {
-        if close_next(plan, levels, &mut progress, opened, window) {
+        if close_next(plan, levels, &mut progress, opened, window, &mut zeros) {
             let next = handed_out(plan, 0, &progress);
             let (level, block) = (next.level, next.index);
             let bytes = &opened[next.at..][..plan.hash_block()];

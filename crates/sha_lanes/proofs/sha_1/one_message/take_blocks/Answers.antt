@@ -1,5 +1,6 @@
 use Rattle.std.proofs.Common.{◌≡◌, ◌+◌, ◌*◌, ◌<◌, ◌++◌, length, take, drop, refl, ap, sym, subst, ◌∙◌, arith, rules}
-use Rattle.sha_lanes.{specs.{Sha1.AddsConstants, Words32.block_count}, proofs.{Groups.group_padded, HashSha1.hash_more, OneMessage.schedule_at_sha1}}
+use Rattle.std.proofs.lemmas.List.{length-take-le}
+use Rattle.sha_lanes.{specs.{Sha1.AddsConstants, Words32.block_count}, proofs.{Groups.{first_hold, holds_padded}, HashSha1.hash_more, OneMessage.schedule_at_sha1}}
 use Rattle.sha_lanes.proofs.sha_1.one_message.take_blocks.Goals.{in-Some, in-None}
 use Rattle.sha1.specs.Sha1 as S1
 use Rattle.sha_lanes.proofs.sha_1.one_message.take_blocks.Goals as goal
@@ -16,16 +17,18 @@ loop-j-preserved c is =
     let p = S1.padded_message m in
     let k = c.args.k in
     let j = c.loop-j.j in
-    let kw = c.match-group_in.kw in
+    let kw = c.match-rest_in.kw in
     let block = take 64 (drop ((k + j) * 64) p) in
     let below : j < 8 = omega arith in
     let inside : k + j < block_count (length first + length second + length third) = omega arith in
-    let words : AddsConstants kw j (S1.schedule block 64) = elim c.match-group_in.branch [
+    let words : AddsConstants kw j (S1.schedule block 64) = elim c.match-rest_in.branch [
       | in-Some s ↦
+          let rest = s.in-Some.rest.now in
           let found = s.in-Some.ensures.bytes in
+          let long : length (take 512 rest) ≡ 512 = length-take-le 512 rest found.0 in
           subst (λ z. AddsConstants z j (S1.schedule block 64)) (sym s.kw-is)
           (subst (AddsConstants s.set_words.new.kw j)
-          (schedule_at_sha1 first second third k j _ below inside (group_padded _ m _ (k * 64) found.2 found.0 found.1) found.0)
+          (schedule_at_sha1 first second third k j _ below inside (first_hold 512 rest p (k * 64) (holds_padded rest m _ (k * 64) found.2 found.1) found.0 long) long)
           (s.set_words.ensures j below))
       | in-None s ↦
           subst (λ z. AddsConstants z j (S1.schedule block 64)) (sym s.kw-is)

@@ -16,7 +16,7 @@ returns c =
     let second = λ (j i : ℕ) (lane : j < 4) (place : i * len ≡ 4 * len + j * len) (lt : i < c.args.count).
     let room : i * len + len ≤ length parts = within i lt in
     c.four_hash_values-2.ensures j lane (omega (arith, place, room, length_of_rest parts (4 * len) (omega arith)))
-    ∙ ap (λ z. S512.digest_bytes (S512.final_hash c.args.initial.now (before ++ z ++ after)) 8)
+    ∙ ap (λ z. S512.final_hash c.args.initial.now (before ++ z ++ after))
     (part_of_rest parts len (4 * len) (i * len) j place room) in
     first_cases _ c.requires.most
     (first 0 (omega arith))

@@ -1,5 +1,14 @@
-use Rattle.{std.proofs.Common.refl, sha_lanes.{specs.Lanes.message_of, proofs.Hash64.sha512_is}}
+use Rattle.sha_lanes.proofs.{LaneWise.first_cases, Hash64.sha512_is}
 use Rattle.sha_lanes.proofs.words64.digests.sha512.Goals as goal
 
 pub returns : goal.returns
-returns c j lt = sha512_is (message_of c.args.before.now c.args.parts.now c.args.len c.args.after.now j) (c.hash_values.ensures j lt) refl
+returns c =
+    first_cases _ c.requires.most
+    (λ lt. sha512_is _ c.hash_bytes.ensures (c.hash_values.ensures 0 lt))
+    (λ lt. sha512_is _ c.hash_bytes-2.ensures (c.hash_values.ensures 1 lt))
+    (λ lt. sha512_is _ c.hash_bytes-3.ensures (c.hash_values.ensures 2 lt))
+    (λ lt. sha512_is _ c.hash_bytes-4.ensures (c.hash_values.ensures 3 lt))
+    (λ lt. sha512_is _ c.hash_bytes-5.ensures (c.hash_values.ensures 4 lt))
+    (λ lt. sha512_is _ c.hash_bytes-6.ensures (c.hash_values.ensures 5 lt))
+    (λ lt. sha512_is _ c.hash_bytes-7.ensures (c.hash_values.ensures 6 lt))
+    (λ lt. sha512_is _ c.hash_bytes-8.ensures (c.hash_values.ensures 7 lt))

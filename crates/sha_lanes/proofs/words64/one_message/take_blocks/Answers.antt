@@ -1,5 +1,6 @@
 use Rattle.std.proofs.Common.{◌≡◌, ◌+◌, ◌*◌, ◌<◌, ◌++◌, length, take, drop, refl, ap, sym, subst, ◌∙◌, arith, rules}
-use Rattle.sha_lanes.{specs.Words64.{AddsConstants, block_count}, proofs.{Groups.group_padded, Hash64.hash_more, OneMessage.schedule_at64}}
+use Rattle.std.proofs.lemmas.List.{length-take-le}
+use Rattle.sha_lanes.{specs.Words64.{AddsConstants, block_count}, proofs.{Groups.{first_hold, holds_padded}, Hash64.hash_more, OneMessage.schedule_at64}}
 use Rattle.sha_lanes.proofs.words64.one_message.take_blocks.Goals.{in-Some, in-None}
 use Rattle.sha2.specs.Sha512 as S512
 use Rattle.sha_lanes.proofs.words64.one_message.take_blocks.Goals as goal
@@ -16,16 +17,18 @@ loop-j-preserved c h is =
     let p = S512.padded_message m in
     let k = c.args.k in
     let j = c.loop-j.j in
-    let kw = c.match-group_in.kw in
+    let kw = c.match-rest_in.kw in
     let block = take 128 (drop ((k + j) * 128) p) in
     let below : j < 4 = omega arith in
     let inside : k + j < block_count (length first + length second + length third) = omega arith in
-    let words : AddsConstants kw j (S512.schedule block 64) = elim c.match-group_in.branch [
+    let words : AddsConstants kw j (S512.schedule block 64) = elim c.match-rest_in.branch [
       | in-Some s ↦
+          let rest = s.in-Some.rest.now in
           let found = s.in-Some.ensures.bytes in
+          let long : length (take 512 rest) ≡ 512 = length-take-le 512 rest found.0 in
           subst (λ z. AddsConstants z j (S512.schedule block 64)) (sym s.kw-is)
           (subst (AddsConstants s.set_words.new.kw j)
-          (schedule_at64 first second third k j _ below inside (group_padded _ m _ (k * 128) found.2 found.0 found.1) found.0)
+          (schedule_at64 first second third k j _ below inside (first_hold 512 rest p (k * 128) (holds_padded rest m _ (k * 128) found.2 found.1) found.0 long) long)
           (s.set_words.ensures j below))
       | in-None s ↦
           subst (λ z. AddsConstants z j (S512.schedule block 64)) (sym s.kw-is)
