@@ -336,8 +336,8 @@ stack_of() {
     local name=${1#"$LIB/"} library=$1 column=$2 most=$3 prefix=$4 function taken stated limit measured least
     local hashes_in_vectors=yes
     shift 4
-    if ! grep -q ', without SHA instructions$' "$library.made" && { [ -n "$prefix" ] || grep -q ' sha_ni' /proc/cpuinfo; }
-    then
+    if ! grep -qE '(-strict-align|, without SHA instructions)$' "$library.made" &&
+        { [ -n "$prefix" ] || grep -q ' sha_ni' /proc/cpuinfo; }; then
         hashes_in_vectors=no
     fi
     "${prefix}objdump" -dr --no-show-raw-insn "$library" | tests/library/stack.py >"$scratch/taken" 2>"$scratch/.err"
