@@ -264,15 +264,15 @@ runs 'what is for every processor' 0 '' '' \
     make -s -C "$scratch/empty" --no-print-directory install STATIC=yes CPU=any DESTDIR="$scratch/for_any"
 runs 'a CPU in the environment' 0 '' '' \
     env CPU=any make -s -C "$scratch/empty" --no-print-directory install DESTDIR="$scratch/for_any"
-echo 'x86-64-v2, without SHA instructions' | tee "$scratch/empty/bin/"{fsverity,veritysetup}.made >/dev/null
-echo 'x86-64, without SHA instructions' >"$scratch/empty/lib/libverity.a.made"
-refuses 'programs without SHA instructions' "bin/fsverity isn't built with SHA=yes: run 'make programs SHA=yes' first" \
-    -C "$scratch/empty" install SHA=yes
 refuses 'another CPU' 'CPU is x86-64, x86-64-v2, x86-64-v3 or any' install CPU=x86-64-v4
 refuses 'a STATIC that is neither yes nor no' 'STATIC is yes or no' install STATIC=1
 refuses 'a SHA that is neither yes nor no' 'SHA is yes or no' install SHA=1
 refuses 'programs with SHA instructions' \
     "bin/fsverity isn't built with SHA=no: run 'make programs SHA=no' first" -C "$scratch/empty" install SHA=no
+echo 'x86-64-v2, without SHA instructions' | tee "$scratch/empty/bin/"{fsverity,veritysetup}.made >/dev/null
+echo 'x86-64, without SHA instructions' >"$scratch/empty/lib/libverity.a.made"
+refuses 'programs without SHA instructions' "bin/fsverity isn't built with SHA=yes: run 'make programs SHA=yes' first" \
+    -C "$scratch/empty" install SHA=yes
 refuses 'another TARGET' 'TARGET is x86_64 or aarch64' install TARGET=arm
 
 # The archive of the sources: the same bytes from a clone, later and with other settings, and what was committed, but

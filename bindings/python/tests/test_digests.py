@@ -332,11 +332,11 @@ class Handlers(unittest.TestCase):
 
     def test_a_signal(self):
         """A signal while the library works: its handler runs once the piece is hashed, or before on a slow machine."""
-        data, digest = bytes(64 << 20), verity.FileDigest()
+        data, digest = b"a" * (64 << 20), verity.FileDigest()
         known = [verity.FileDigest(whole).hexdigest() for whole in (data + b"x", b"x" + data)]
         before = signal.signal(signal.SIGALRM, lambda *_: digest.update(b"x"))
         try:
-            signal.setitimer(signal.ITIMER_REAL, 0.02)
+            signal.setitimer(signal.ITIMER_REAL, 0.005)
             digest.update(data)
         finally:
             signal.setitimer(signal.ITIMER_REAL, 0)
