@@ -571,17 +571,27 @@ static void read_chains(const char *name)
         give_up("there is no chain");
 }
 
+/* The first status that no call has answered, or 1. */
+static int unanswered(void)
+{
+    int status;
+
+    for (status = VERITY_OK; status >= LEAST_STATUS; status--)
+        if (!status_seen[-status])
+            return status;
+    return 1;
+}
+
 int main(int count, char **words)
 {
     uint64_t wanted;
-    int status;
 
     if (count != 4)
         give_up("usage: fuzz SEED CALLS CHAINS");
     seed_random(number_of(words[1]));
     wanted = number_of(words[2]);
     read_chains(words[3]);
-    while (calls_made < wanted) {
+    while (calls_made < wanted || (unanswered() <= 0 && calls_made < 10 * wanted)) {
         switch (random_below(14)) {
         case 8:
             try_end();
@@ -619,10 +629,7 @@ int main(int count, char **words)
             break;
         }
     }
-    for (status = VERITY_OK; status >= VERITY_BAD_VERSION; status--)
-        check(status_seen[-status], "status %d wasn't answered", status);
-    for (status = VERITY_TOO_LONG; status >= LEAST_STATUS; status--)
-        check(status_seen[-status], "status %d wasn't answered", status);
+    check(unanswered() > 0, "status %d wasn't answered", unanswered());
     printf("%" PRIu64 " calls, %zu chains\n", calls_made, chain_count);
     return finish();
 }
